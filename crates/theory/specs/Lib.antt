@@ -1,0 +1,8 @@
+pub mod Lists
+pub mod Grammar
+pub mod Sets
+pub mod Sound
+pub mod Order
+pub mod Count
+pub mod Enumerate
+pub mod Theorems

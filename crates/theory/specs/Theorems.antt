@@ -1,0 +1,75 @@
+-- The laws, as the contracts cite them.
+use mathlib.Core.Path.{_≡_}
+use mathlib.Core.Logic.{_↔_, _⊎_}
+use mathlib.Core.List.{List}
+use Prim.Native.Nat.{ℕ, _≤_, _<_}
+use lib.ListN.{length}
+use Rattle.theory.specs.Lists.{In, Sorted, Distinct}
+use Rattle.theory.specs.Grammar.{Symbol, CFG, Rule-at, Sentence, Sentence-of, parse}
+use Rattle.theory.specs.Sound.{Predict-sets-apart, LL1}
+use Rattle.theory.specs.Order.{LengthOrder, Lists-lengths, ascending, Parts, Precedes, Rank}
+use Rattle.theory.specs.Count.{Count, Ways, sum-slots, count, side-count}
+
+-- there is one count, one number of ways and one rank
+pub record Numbers-are-unique (G : CFG) : Type 0 where
+  pub one-count : (A m k k′ : ℕ) → Count G A m k → Count G A m k′ → k ≡ k′
+  pub one-ways : (Xs : List Symbol) (m k k′ : ℕ) → Ways G Xs m k → Ways G Xs m k′ → k ≡ k′
+  pub one-rank : (order : LengthOrder) (A k k′ : ℕ) (w : List ℕ) → Rank G order A w k → Rank G order A w k′ → k ≡ k′
+
+abbrev pub Counts-and-ranks-are-unique : Type 0
+Counts-and-ranks-are-unique = (G : CFG) → Numbers-are-unique G
+
+-- the ascending order lists each of the lengths 0 to m once
+abbrev pub Ascending-lists-lengths : Type 0
+Ascending-lists-lengths = Lists-lengths ascending
+
+-- a sentence has one parse
+abbrev pub One-parse : Type 0
+One-parse = (G : CFG) → Predict-sets-apart G → (A : ℕ) (w : List ℕ) (d d′ : Sentence G A w) → parse d ≡ parse d′
+
+-- a sentence has a rank, and it is below the count
+abbrev pub Rank-below-count : Type 0
+Rank-below-count =
+    (G : CFG) (level : ℕ → ℕ) (order : LengthOrder) → LL1 G level → Lists-lengths order → (A : ℕ) (w : List ℕ) → Sentence G A w →
+    (k : ℕ) × (c : ℕ) × Rank G order A w k × Count G A (length w) c × (k < c)
+
+-- the sentences of one nonterminal and length can be listed in split order, each once, and only in one way
+pub record Listing (G : CFG) (order : LengthOrder) (A m : ℕ) : Type 0 where
+  pub list : List (List ℕ)
+  pub in-order : Sorted (Precedes G order A) list
+  pub once : Distinct list
+  pub just : (w : List ℕ) → In w list ↔ Sentence-of G A m w
+  pub only : (l : List (List ℕ)) → Sorted (Precedes G order A) l → ((w : List ℕ) → In w l ↔ Sentence-of G A m w) → l ≡ list
+
+abbrev pub Sentences-are-listed-in-split-order : Type 0
+Sentences-are-listed-in-split-order =
+    (G : CFG) (level : ℕ → ℕ) (order : LengthOrder) → LL1 G level → Lists-lengths order → (A m : ℕ) → Listing G order A m
+
+-- split order is a strict total order on the sentences of one nonterminal and one length
+pub record Strict-total (G : CFG) (order : LengthOrder) (A m : ℕ) : Type 0 where
+  pub irreflexive : (w : List ℕ) → Precedes G order A w w → ⊥
+  pub transitive : (u v w : List ℕ) → Sentence-of G A m u → Precedes G order A u v → Precedes G order A v w → Precedes G order A u w
+  pub total : (v w : List ℕ) → Sentence-of G A m v → Sentence-of G A m w → (v ≡ w) ⊎ (Precedes G order A v w ⊎ Precedes G order A w v)
+
+abbrev pub Split-order-is-strict-and-total : Type 0
+Split-order-is-strict-and-total =
+    (G : CFG) (level : ℕ → ℕ) (order : LengthOrder) → LL1 G level → Lists-lengths order → (A m : ℕ) → Strict-total G order A m
+
+-- the count of a nonterminal is the sum of its slots' ways
+abbrev pub Count-is-sum-of-slots : Type 0
+Count-is-sum-of-slots =
+    (G : CFG) (level : ℕ → ℕ) → LL1 G level → (A m c : ℕ) → Count G A m c → (ways : ℕ → ℕ) →
+    ((s : ℕ) (Ys : List Symbol) → Rule-at G s A Ys → Ways G Ys m (ways s)) → c ≡ sum-slots G A ways (G .slots)
+
+-- the computed counts are the counts: of a nonterminal, and of a list of symbols
+pub record Counts-are-computed (G : CFG) : Type 0 where
+  pub of-nonterminal : (A m : ℕ) → Count G A m (count G A m)
+  pub of-symbols : (Xs : List Symbol) (m : ℕ) → Ways G Xs m (side-count (count G) Xs m)
+
+abbrev pub Computed-counts-are-counts : Type 0
+Computed-counts-are-counts = (G : CFG) (level : ℕ → ℕ) → LL1 G level → Counts-are-computed G
+
+-- at most one way gives no tokens
+abbrev pub At-most-one-way-to-nothing : Type 0
+At-most-one-way-to-nothing =
+    (G : CFG) → ((A c : ℕ) → Count G A 0 c → c ≤ 1) × ((Xs : List Symbol) (c : ℕ) → Ways G Xs 0 c → c ≤ 1)

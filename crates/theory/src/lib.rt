@@ -1,0 +1,50 @@
+//! The theory of command grammars: one function for each law, whose contract is the law.
+//!
+//! The definitions stand in `specs/`, the statements in `specs/Theorems.antt`. A function here does nothing; it exists so that the check asks for the proof.
+
+ghost use Rattle.theory.specs.Theorems.{Counts-and-ranks-are-unique, Ascending-lists-lengths, One-parse, Rank-below-count, Sentences-are-listed-in-split-order, Split-order-is-strict-and-total, Count-is-sum-of-slots, Computed-counts-are-counts, At-most-one-way-to-nothing};
+
+/// There is one count, one number of ways and one rank.
+pub fn counts_and_ranks_are_unique()
+    ensures { λ _. ⌜ Counts-and-ranks-are-unique ⌝ }
+{}
+
+/// The ascending order lists each of the lengths 0 to m once.
+pub fn ascending_lists_lengths()
+    ensures { λ _. ⌜ Ascending-lists-lengths ⌝ }
+{}
+
+/// A sentence has one parse.
+pub fn one_parse()
+    ensures { λ _. ⌜ One-parse ⌝ }
+{}
+
+/// A sentence has a rank, and it is below the count.
+pub fn rank_below_count()
+    ensures { λ _. ⌜ Rank-below-count ⌝ }
+{}
+
+/// The sentences of one nonterminal and length can be listed in split order, each once, and only in one way.
+pub fn sentences_are_listed_in_split_order()
+    ensures { λ _. ⌜ Sentences-are-listed-in-split-order ⌝ }
+{}
+
+/// Split order is a strict total order on the sentences of one nonterminal and length.
+pub fn split_order_is_strict_and_total()
+    ensures { λ _. ⌜ Split-order-is-strict-and-total ⌝ }
+{}
+
+/// The count of a nonterminal is the sum of its slots' ways.
+pub fn count_is_sum_of_slots()
+    ensures { λ _. ⌜ Count-is-sum-of-slots ⌝ }
+{}
+
+/// The computed counts are the counts.
+pub fn computed_counts_are_counts()
+    ensures { λ _. ⌜ Computed-counts-are-counts ⌝ }
+{}
+
+/// At most one way gives no tokens.
+pub fn at_most_one_way_to_nothing()
+    ensures { λ _. ⌜ At-most-one-way-to-nothing ⌝ }
+{}

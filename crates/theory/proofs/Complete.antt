@@ -104,6 +104,14 @@ sound-parts {G} S h (terminal t) j m =
     (subst (λ (y : List ℕ). Derives G (terminal t ∷ []) y) (sym (k .1)) (read refl done), ap length (k .1) ∙ sym (k .0))
 sound-parts S h (nonterminal A) j {w} m = h A j w m
 
+-- a slot that holds a rule is one of the grammar's
+pub slot-below : {G : CFG} → Limits G → (s A : ℕ) (Ys : List Symbol) → Rule-at G s A Ys → s < G .slots
+slot-below {G} li s A Ys r = go (cases-lt s (G .slots))
+  where
+    go : (s < G .slots) ⊎ (G .slots ≤ s) → s < G .slots
+    go (inl l) = l
+    go (inr l) = let z : _≡_ {A = ℕ} 0 1 = cc (li .outside s l, r) in absurd (omega arith)
+
 module _ {order : LengthOrder} (lists : Lists-lengths order) where
   -- the ways that are listed for some symbols and a length
   pub sound-ways : {G : CFG} (S : Lists) → Sound-lists G S → (Xs : List Symbol) (m : ℕ) (us : List (List ℕ)) → In us (listed-ways order S Xs m)
@@ -118,9 +126,10 @@ module _ {order : LengthOrder} (lists : Lists-lengths order) where
       let a = sound-parts S h X (s .at) (p .front-in) in
       let b = sound-ways S h Xs (m - s .at) (p .back) (p .back-in) in
       let l = lists .just m (s .at) .0 (s .listed) in
-      let e : length (joined (p .front ∷ p .back)) ≡ m = length-joined (p .front) (p .back) ∙ omega (arith, a .1, b .1) in
-      (subst (λ (y : List (List ℕ)). Parts G (X ∷ Xs) y) (sym (p .is)) (one (a .0) (b .0)),
-        ap {B = ℕ} (λ (y : List (List ℕ)). length (joined y)) (p .is) ∙ e)
+      let e : length (joined (p .front ∷ p .back)) ≡ m = length-joined (p .front) (p .back) ∙ omega (arith, a .1, b .1) in (
+        subst (λ (y : List (List ℕ)). Parts G (X ∷ Xs) y) (sym (p .is)) (one (a .0) (b .0)),
+        ap {B = ℕ} (λ (y : List (List ℕ)). length (joined y)) (p .is) ∙ e,
+      )
 
   -- what the enumeration lists are sentences
   pub sound : (G : CFG) (f : ℕ) → Sound-lists G (listed order G f)
@@ -128,9 +137,10 @@ module _ {order : LengthOrder} (lists : Lists-lengths order) where
   sound G zero A m w n = elim n [ ]
   sound G (suc f) A m w n =
       let c = from-slots order G (listed order G f) A m (G .slots) n in
-      let p = sound-ways (listed order G f) (sound G f) (right-of (G .slot (c .slot))) m (c .parts) (c .found) in
-      (subst (λ (y : List ℕ). Sentence G A y) (sym (c .is)) (sentence (c .slot) (right-of (G .slot (c .slot))) (c .holds) (parts-derive (p .0))),
-        ap length (c .is) ∙ p .1)
+      let p = sound-ways (listed order G f) (sound G f) (right-of (G .slot (c .slot))) m (c .parts) (c .found) in (
+        subst (λ (y : List ℕ). Sentence G A y) (sym (c .is)) (sentence (c .slot) (right-of (G .slot (c .slot))) (c .holds) (parts-derive (p .0))),
+        ap length (c .is) ∙ p .1,
+      )
 
   -- parts are listed where S lists the shorter sentences, and those of length m of the nonterminals that lead
   pub complete-ways : {G : CFG} (S : Lists) (m : ℕ) → ((B : ℕ) (u : List ℕ) → Sentence G B u → length u < m → In u (S B (length u)))
@@ -168,7 +178,7 @@ module _ {order : LengthOrder} (lists : Lists-lengths order) where
       let k = derive-parts d in
       let e : w ≡ joined (k .parts) = ex ∙ append-nil u ∙ k .is in
       subst (λ (y : List ℕ). In y (listed-slots order G (listed order G f) A (length y) (G .slots))) (sym e)
-      (in-slots order G (listed order G f) A (length (joined (k .parts))) (G .slots) s Ys (k .parts) (filled (cases-lt s (G .slots))) r
+      (in-slots order G (listed order G f) A (length (joined (k .parts))) (G .slots) s Ys (k .parts) (slot-below li s A Ys r) r
       (complete-ways (listed order G f) (length (joined (k .parts)))
       (λ B y b l. let i = ls .small B in let el = ap length e in complete li ls f B y b (omega arith))
       (k .taken) (omega arith)
@@ -176,7 +186,3 @@ module _ {order : LengthOrder} (lists : Lists-lengths order) where
       let i = ls .falls A B (record { slot = s; side = Ys; holds = r; leads = l }) in
       let el = ap length e in
       complete li ls f B y b (omega arith))))
-    where
-      filled : (s < G .slots) ⊎ (G .slots ≤ s) → s < G .slots
-      filled (inl l) = l
-      filled (inr l) = let z : _≡_ {A = ℕ} 0 1 = cc (li .outside s l, r) in absurd (omega arith)

@@ -79,7 +79,7 @@ module _ {order : LengthOrder} (lists : Lists-lengths order) where
       (λ i j a b o n n′. lengths-apart S so X Xs m i j a b o (in-over at i (order m) (before-first o) n) n n′)
 
   -- the first n slots are listed in order
-  sorted-slots : {G : CFG} (S : Lists) → Sound-lists G S → ((A j : ℕ) → Sorted (Precedes G order A) (S A j)) → (A m n : ℕ)
+  pub sorted-slots : {G : CFG} (S : Lists) → Sound-lists G S → ((A j : ℕ) → Sorted (Precedes G order A) (S A j)) → (A m n : ℕ)
       → Sorted (Precedes G order A) (listed-slots order G S A m n)
   unfolding listed-slots
   sorted-slots S so h A m zero = tt

@@ -1,8 +1,8 @@
 -- The ascending order of lengths, and how long an enumeration in that order is. Assumes nothing.
-use mathlib.Core.Path.{_≡_, refl, sym, _∙_, ap, ap₂, subst}
+use mathlib.Core.Path.{_≡_, refl, sym, _∙_, ap, ap₂}
 use mathlib.Core.Bool.{Bool, true, false, cond}
-use mathlib.Core.Logic.{_⊎_, inl, inr, ⊎-elim}
-use mathlib.Core.List.{List, [], _∷_, _++_, map}
+use mathlib.Core.Logic.{⊎-elim}
+use mathlib.Core.List.{List, [], _∷_, map}
 use Prim.Native.Nat.{ℕ, zero, suc, _+_, _-_, _*_, _≤_, _<_}
 use native.Mathlib.Nat.{zero-mul}
 use native.Mathlib.Numerals.{add-one}
@@ -26,11 +26,13 @@ from-counting k zero j m = elim m [ ]
 from-counting k (suc n) j (here e) = (omega arith, omega arith)
 from-counting k (suc n) j (there m) = let r = from-counting (suc k) n j m in (omega arith, omega arith)
 
+-- a number from k on, below k + n
 in-counting : (k n j : ℕ) → k ≤ j → j < k + n → In j (counting-up k n)
 unfolding counting-up
 in-counting k zero j l h = absurd (omega arith)
 in-counting k (suc n) j l h = ⊎-elim (λ (e : j ≡ k). here e) (λ ne. there (in-counting (suc k) n j (omega arith) (omega arith))) (cases-eq j k)
 
+-- n numbers from k on are distinct
 distinct-counting : (k n : ℕ) → Distinct (counting-up k n)
 unfolding counting-up
 distinct-counting k zero = tt
@@ -58,6 +60,7 @@ over-more h k (suc n) =
     let b = length-append (h k) (over h (counting-up (suc k) n)) in
     omega arith
 
+-- as many pairs as the product
 length-pairs : (us : List (List ℕ)) (vs : List (List (List ℕ))) → length (pairs us vs) ≡ length us * length vs
 unfolding pairs
 length-pairs [] vs = sym (zero-mul (length vs))
@@ -68,6 +71,7 @@ length-pairs (u ∷ us) vs =
     let c = length-pairs us vs in
     omega arith
 
+-- the pairs of all splits, first length upward
 length-upward : (f : ℕ → List (List ℕ)) (h : ℕ → List (List (List ℕ))) (m n : ℕ)
     → length (over (λ j. pairs (f j) (h (m - j))) (counting-up 0 n)) ≡ sum-upward (λ j. length (f j)) (λ k. length (h k)) m n
 unfolding sum-upward
@@ -78,19 +82,23 @@ length-upward f h m (suc n) =
     over-more at 0 n ∙
     ap₂ {C = ℕ} (λ (x y : ℕ). x + y) (length-upward f h m n) (ap {B = ℕ} (λ (x : ℕ). length (at x)) e ∙ length-pairs (f n) (h (m - n)))
 
+-- at most one thing
 length-test : {E : Type 0} (b : Bool) (x : E) → length (cond b (x ∷ []) []) ≡ cond b 1 0
 length-test true x = refl
 length-test false x = refl
 
+-- a list that a test keeps
 length-kept : (b : Bool) (l : List (List ℕ)) (n : ℕ) → length l ≡ n → length (cond b l []) ≡ cond b n 0
 length-kept true l n e = e
 length-kept false l n e = refl
 
+-- a list that is kept if the left-hand side is A
 length-if : (o : Option ℕ) (A : ℕ) (l : List (List ℕ)) (n : ℕ) → length l ≡ n → length (listed-if o A l) ≡ if-left o A n
 length-if None A l n e = refl
 length-if (Some B) A l n e = length-kept (eqb B A) l n e
 
 module _ (S : Lists) (F : ℕ → ℕ → ℕ) (same : (A m : ℕ) → length (S A m) ≡ F A m) where
+  -- as many parts of one symbol
   length-parts : (X : Symbol) (j : ℕ) → length (listed-parts S X j) ≡ symbol-count F X j
   length-parts (terminal t) j = length-test (eqb j 1) (t ∷ [])
   length-parts (nonterminal A) j = same A j
@@ -105,6 +113,7 @@ module _ (S : Lists) (F : ℕ → ℕ → ℕ) (same : (A m : ℕ) → length (S
       upward-same (λ j. length (listed-parts S X j)) (symbol-count F X) (λ k. length (listed-ways ascending S Xs k)) (side-count F Xs) m (suc m) (length-parts X) rest ∙
       ap {B = ℕ} (λ (n : ℕ). sum-upward (symbol-count F X) (side-count F Xs) m n) (sym (add-one m))
 
+  -- as many of the first n slots
   length-slots : (G : CFG) (A m n : ℕ) → length (listed-slots ascending G S A m n) ≡ sum-slots G A (λ s. side-count F (right-of (G .slot s)) m) n
   unfolding listed-slots sum-slots
   length-slots G A m zero = refl

@@ -1,8 +1,8 @@
 -- What the enumeration lists is a sentence of the length, and each sentence is listed. Assumes nothing.
-use mathlib.Core.Path.{_≡_, refl, sym, _∙_, ap, ap₂, subst}
-use mathlib.Core.Bool.{Bool, true, false, cond}
+use mathlib.Core.Path.{_≡_, refl, sym, _∙_, ap, subst}
+use mathlib.Core.Bool.{cond}
 use mathlib.Core.Logic.{_⊎_, inl, inr, ⊎-elim}
-use mathlib.Core.List.{List, [], _∷_, _++_, map, append-nil}
+use mathlib.Core.List.{List, [], _∷_, map, append-nil}
 use Prim.Native.Nat.{ℕ, zero, suc, _+_, _-_, _*_, _≤_, _<_}
 use native.Mathlib.Nat.{eq-or-lt-of-le, le-refl}
 use native.Mathlib.Omega.{arith}
@@ -11,17 +11,18 @@ use lib.ListN.{length}
 use Rattle.std.proofs.shelf.Tests.{cases-eq, cases-lt, eq-eqb, ne-eqb}
 use Rattle.std.specs.declared.option.Option.{Option}
 use Rattle.std.specs.declared.option.Option.the-variants.{None, Some}
+use Rattle.std.proofs.shelf.Lists.{nil-from-length}
 use Rattle.theory.specs.Lists.{In, here, there, joined}
 use Rattle.theory.specs.Grammar.{Symbol, terminal, nonterminal, CFG, Rule-at, Derives, done, read, expand, Sentence, Sentence-of}
-use Rattle.theory.specs.Sets.{Nullable, LeftCorner, Leads, at-front, past}
+use Rattle.theory.specs.Sets.{Leads, at-front, past}
 use Rattle.theory.specs.Sound.{Limits, Levels}
 use Rattle.theory.specs.Order.{LengthOrder, Lists-lengths, Parts, none, one}
 use Rattle.theory.specs.Count.{left-of, right-of}
-use Rattle.theory.specs.Enumerate.{Lists, over, pairs, listed-parts, listed-ways, listed-if, listed-slots, listed, sentences}
+use Rattle.theory.specs.Enumerate.{Lists, pairs, listed-parts, listed-ways, listed-if, listed-slots, listed}
 use Rattle.theory.proofs.Counting.{is-rule}
 use Rattle.theory.proofs.Unique.{nullable, sentence}
-use Rattle.theory.proofs.Members.{in-append, in-left, in-right, in-cast, in-map, from-map, in-over, from-over, in-pairs, from-pairs}
-use Rattle.theory.proofs.Parts.{parts-derive, derive-parts, length-nil, length-joined}
+use Rattle.theory.proofs.Members.{in-append, in-left, in-right, in-map, from-map, in-over, from-over, in-pairs, from-pairs}
+use Rattle.theory.proofs.Parts.{parts-derive, derive-parts, length-joined}
 
 -- a member of a list that is kept if the left-hand side is A
 pub from-if : (o : Option ℕ) (A : ℕ) (l : List (List ℕ)) {w : List ℕ} → In w (listed-if o A l) → (o ≡ Some A) × In w l
@@ -160,7 +161,7 @@ module _ {order : LengthOrder} (lists : Lists-lengths order) where
       let lx = length-joined u us in
       let n = length (joined (u ∷ us)) in
       let r = complete-ways S m low ps (omega arith)
-      (λ e C l. lead (omega arith) C (past (nullable d (length-nil u (omega arith))) l)) in
+      (λ e C l. lead (omega arith) C (past (nullable d (nil-from-length u (omega arith))) l)) in
       let z : n - length u ≡ length (joined us) = omega arith in
       in-over (λ j. pairs (listed-parts S (nonterminal B) j) (listed-ways order S Xs (n - j))) (length u) (order n) (lists .just n (length u) .1 (omega arith))
       (in-pairs (S B (length u)) (listed-ways order S Xs (n - length u)) (part d (eq-or-lt-of-le (omega arith))) (rw z r))

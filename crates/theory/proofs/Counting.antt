@@ -1,20 +1,18 @@
 -- Sums over splits and slots, and the equation that the computed counts satisfy. Assumes nothing.
 use mathlib.Core.Path.{_≡_, refl, sym, ap, ap₂, subst, _∙_}
-use mathlib.Core.Bool.{Bool, true, false, cond}
 use mathlib.Core.List.{List, [], _∷_, _++_}
 use mathlib.Core.Logic.{_⊎_, inl, inr, ⊎-elim}
 use Prim.Native.Nat.{ℕ, zero, suc, _+_, _-_, _*_, _≤_, _<_}
 use native.Mathlib.Nat.{le-refl, zero-mul, mul-zero, add-zero, add-suc}
 use native.Mathlib.Numerals.{add-one}
 use native.Mathlib.Omega.{arith}
-use lib.Dec.{eqb}
 use Rattle.std.proofs.shelf.Tests.{cases-eq, eq-eqb, ne-eqb}
 use Rattle.std.specs.declared.option.Option.{Option}
 use Rattle.std.specs.declared.option.Option.the-variants.{None, Some}
-use Rattle.theory.specs.Grammar.{Symbol, terminal, nonterminal, Slot, empty, rule, CFG, Rule-at}
+use Rattle.theory.specs.Grammar.{Symbol, terminal, nonterminal, Slot, empty, rule, CFG}
 use Rattle.theory.specs.Sets.{Nullable, none, next, Leads, at-front, past, LeftCorner}
 use Rattle.theory.specs.Sound.{Levels, LL1}
-use Rattle.theory.specs.Count.{left-of, right-of, if-left, sum-slots, one-at, sum-upward, sum-splits, symbol-count, side-count, trees, count}
+use Rattle.theory.specs.Count.{left-of, right-of, if-left, sum-slots, sum-upward, sum-splits, symbol-count, side-count, trees, count}
 
 -- a sum of no terms
 pub upward-none : (f h : ℕ → ℕ) (m : ℕ) → sum-upward f h m 0 ≡ 0
@@ -26,6 +24,7 @@ pub upward-more : (f h : ℕ → ℕ) (m j : ℕ) → sum-upward f h m (j + 1) �
 unfolding sum-upward
 upward-more f h m j = rw add-one
 
+-- d more terms give no less
 upward-grows : (f h : ℕ → ℕ) (m j d : ℕ) → sum-upward f h m j ≤ sum-upward f h m (j + d)
 unfolding sum-upward
 upward-grows f h m j zero = rw add-zero (le-refl _)
@@ -75,6 +74,7 @@ pub slots-more : (G : CFG) (A : ℕ) (f : ℕ → ℕ) (s : ℕ) → sum-slots G
 unfolding sum-slots
 slots-more G A f s = rw add-one
 
+-- d more slots give no less
 slots-grow : (G : CFG) (A : ℕ) (f : ℕ → ℕ) (s d : ℕ) → sum-slots G A f s ≤ sum-slots G A f (s + d)
 unfolding sum-slots
 slots-grow G A f s zero = rw add-zero (le-refl _)
@@ -137,6 +137,7 @@ leads-split (past {A} n l) =
       nullable = nullable-join n (r .nullable);
     }
 
+-- no way to no tokens, where the first symbol or the rest has none
 side-zero : (F : ℕ → ℕ → ℕ) (X : Symbol) (Xs : List Symbol) → (symbol-count F X 0 ≡ 0) ⊎ (side-count F Xs 0 ≡ 0) → side-count F (X ∷ Xs) 0 ≡ 0
 unfolding side-count sum-upward
 side-zero F X Xs (inl e) = omega (arith, ap (λ (x : ℕ). x * side-count F Xs 0) e ∙ zero-mul (side-count F Xs 0))
@@ -150,6 +151,7 @@ side-nullable G F h (terminal t ∷ Xs) n = absurd (n (side-zero F (terminal t) 
 side-nullable G F h (nonterminal B ∷ Xs) n =
     nullable-join (h B (λ e. n (side-zero F (nonterminal B) Xs (inl e)))) (side-nullable G F h Xs (λ e. n (side-zero F (nonterminal B) Xs (inr e))))
 
+-- what is not 0 has the left-hand side A
 if-some : (o : Option ℕ) (A n : ℕ) → (if-left o A n ≡ 0 → ⊥) → (o ≡ Some A) × (n ≡ 0 → ⊥)
 if-some None A n h = absurd (h refl)
 if-some (Some B) A n h = ⊎-elim (λ e. (ap Some e, λ z. h (rw (eq-eqb B A e) z))) (λ ne. absurd (h (rw (ne-eqb B A ne)))) (cases-eq B A)
@@ -178,6 +180,7 @@ pub count-nullable : (G : CFG) (A : ℕ) → (count G A 0 ≡ 0 → ⊥) → Nul
 unfolding count
 count-nullable G A h = trees-nullable G 16 A h
 
+-- counts that agree at a nonterminal give equal counts of the symbol
 symbol-same : (F F′ : ℕ → ℕ → ℕ) (X : Symbol) (j : ℕ) → ((B : ℕ) → X ≡ nonterminal B → F B j ≡ F′ B j) → symbol-count F X j ≡ symbol-count F′ X j
 symbol-same F F′ (terminal t) j h = refl
 symbol-same F F′ (nonterminal B) j h = h B refl
@@ -212,6 +215,7 @@ module _ (G : CFG) (F F′ : ℕ → ℕ → ℕ) (m : ℕ) (less : (B k : ℕ) 
       (λ k l. side-same F F′ Xs k (λ B j o. less B j (omega arith)))
       (⊎-elim inl (λ ne. inr (side-near Xs (λ B l. h B (past (nul A ne) l)))) (cases-eq (F′ A 0) 0))
 
+  -- the same of the right-hand sides of A: they need agree at its left corners
   slots-near : (A : ℕ) → ((B : ℕ) → LeftCorner G A B → F B m ≡ F′ B m) → (n : ℕ)
       → sum-slots G A (λ s. side-count F (right-of (G .slot s)) m) n ≡ sum-slots G A (λ s. side-count F′ (right-of (G .slot s)) m) n
   slots-near A h n =
@@ -236,6 +240,7 @@ module _ {G : CFG} {level : ℕ → ℕ} (ls : Levels G level) where
   unfolding count
   count-trees f A m l = let i = ls .small A in trees-stable (16 * m + 16) f A m (omega arith) l
 
+  -- one more level of trees
   trees-step : (f A m : ℕ) → trees G (suc f) A m ≡ sum-slots G A (λ s. side-count (trees G f) (right-of (G .slot s)) m) (G .slots)
   unfolding trees
   trees-step f A m = refl

@@ -1,21 +1,19 @@
 -- The laws of specs/Theorems.antt. Assumes nothing.
-use mathlib.Core.Path.{_≡_, refl, sym, _∙_, ap, subst}
+use mathlib.Core.Path.{refl, sym, _∙_, subst}
 use mathlib.Core.List.{List, []}
-use Prim.Native.Nat.{ℕ, _≤_, _<_}
-use native.Mathlib.Omega.{arith}
+use Prim.Native.Nat.{ℕ}
 use lib.ListN.{length}
-use Rattle.theory.specs.Lists.{In, joined}
-use Rattle.theory.specs.Grammar.{Symbol, CFG, Sentence, Sentence-of}
-use Rattle.theory.specs.Sound.{LL1}
-use Rattle.theory.specs.Order.{LengthOrder, Lists-lengths, Precedes, Rank}
-use Rattle.theory.specs.Count.{Count, right-of, side-count, count}
+use Rattle.std.proofs.shelf.Lists.{nil-from-length}
+use Rattle.theory.specs.Grammar.{Sentence-of}
+use Rattle.theory.specs.Order.{Precedes, Rank}
+use Rattle.theory.specs.Count.{right-of, side-count, count}
 use Rattle.theory.specs.Enumerate.{sentences}
 use Rattle.theory.specs.Theorems.{Counts-and-ranks-are-unique, Ascending-lists-lengths, One-parse, Rank-below-count, Sentences-are-listed-in-split-order, Split-order-is-strict-and-total, Count-is-sum-of-slots, Computed-counts-are-counts, At-most-one-way-to-nothing}
 use Rattle.theory.proofs.Counting.{slots-same, is-rule, count-equation}
 use Rattle.theory.proofs.Unique.{one-parse}
 use Rattle.theory.proofs.Members.{exactly-unique, exactly-one, sorted-total, sorted-transitive, placed}
-use Rattle.theory.proofs.Parts.{length-nil, empty-parts}
-use Rattle.theory.proofs.Strict.{equally-long, preceding, preceded, strict, asymmetric}
+use Rattle.theory.proofs.Parts.{empty-parts}
+use Rattle.theory.proofs.Strict.{equally-long, preceded, strict, asymmetric}
 use Rattle.theory.proofs.Ascending.{ascending-lists}
 use Rattle.theory.proofs.Listing.{sentences-just, sentences-sorted, sentences-once, sentences-only, sentences-exactly, rank-at, computed-count, computed-ways}
 
@@ -91,6 +89,6 @@ counts-computed G level ll = record { of-nonterminal = computed-count ll; of-sym
 -- at most one way gives no tokens
 pub one-way-to-nothing : At-most-one-way-to-nothing
 one-way-to-nothing G = (
-  λ A c h. exactly-one c h (λ x y p q. length-nil x (p .1) ∙ sym (length-nil y (q .1))),
+  λ A c h. exactly-one c h (λ x y p q. nil-from-length x (p .1) ∙ sym (nil-from-length y (q .1))),
   λ Xs c h. exactly-one c h (λ x y p q. empty-parts (p .0) (p .1) y (q .0) (q .1)),
 )

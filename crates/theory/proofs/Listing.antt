@@ -1,22 +1,22 @@
 -- The sentences of an LL(1) grammar, listed: in split order, each once, as many as the count, and each at the place of its rank. Assumes nothing.
 use mathlib.Core.Path.{_≡_, refl, sym, _∙_, ap, subst}
-use mathlib.Core.Logic.{_↔_, _⊎_, inl, inr}
-use mathlib.Core.List.{List, [], _∷_, append-nil}
-use Prim.Native.Nat.{ℕ, zero, suc, _+_, _*_, _≤_, _<_}
+use mathlib.Core.Logic.{_↔_}
+use mathlib.Core.List.{List, [], append-nil}
+use Prim.Native.Nat.{ℕ, _+_, _*_, _<_}
 use native.Mathlib.Omega.{arith}
 use lib.ListN.{length, getD, take}
 use Rattle.std.proofs.shelf.Lists.{length-take-le}
-use Rattle.theory.specs.Lists.{In, Sorted, Distinct, Exactly, joined}
-use Rattle.theory.specs.Grammar.{Symbol, CFG, Rule-at, Sentence, Sentence-of, expand, done}
+use Rattle.theory.specs.Lists.{In, Sorted, Distinct, joined}
+use Rattle.theory.specs.Grammar.{Symbol, CFG, Sentence, Sentence-of, expand, done}
 use Rattle.theory.specs.Sound.{LL1}
 use Rattle.theory.specs.Order.{LengthOrder, Lists-lengths, ascending, Parts, Precedes, Parts-precede, Rank}
 use Rattle.theory.specs.Count.{Count, Ways, right-of, side-count, count}
-use Rattle.theory.specs.Enumerate.{listed-ways, listed-slots, listed, sentences}
+use Rattle.theory.specs.Enumerate.{listed-ways, listed-slots, sentences}
 use Rattle.theory.proofs.Unique.{sentence}
-use Rattle.theory.proofs.Members.{sorted-mono, sorted-same, sorted-take, in-at, in-cast, in-prefix, prefix-related, placed, Placed, exactly-unique}
+use Rattle.theory.proofs.Members.{sorted-mono, sorted-same, sorted-take, in-at, in-cast, in-prefix, prefix-related, placed, exactly-unique}
 use Rattle.theory.proofs.Parts.{parts-derive, derive-parts}
 use Rattle.theory.proofs.Complete.{from-slots, in-slots, Sound-lists, sound, sound-ways, complete, complete-ways, slot-below}
-use Rattle.theory.proofs.Strict.{equally-long, preceding, preceded, strict, strict-parts, asymmetric}
+use Rattle.theory.proofs.Strict.{equally-long, preceding, strict, strict-parts, asymmetric}
 use Rattle.theory.proofs.Sorted.{sorted, sorted-slots, sorted-ways}
 use Rattle.theory.proofs.Ascending.{ascending-lists, ascending-ways, ascending-sentences}
 

@@ -2,7 +2,7 @@
 use mathlib.Core.Path.{_≡_, refl, sym, _∙_, ap, ap₂, subst}
 use mathlib.Core.Logic.{_⊎_, inl, inr}
 use mathlib.Core.List.{List, [], _∷_, _++_, map}
-use Prim.Native.Nat.{ℕ, zero, suc, _+_, _≤_, _<_}
+use Prim.Native.Nat.{ℕ, zero, suc, _≤_, _<_}
 use native.Mathlib.Omega.{arith}
 use lib.ListN.{length, getD, take}
 use Rattle.theory.specs.Lists.{In, here, there, Sorted, Distinct, Before, first, later, Exactly}
@@ -273,12 +273,14 @@ without (y ∷ ys) (here e) = ys
 without (y ∷ ys) (there m) = y ∷ without ys m
 without [] m = elim m [ ]
 
+-- it is one shorter
 length-without : {E : Type 0} {x : E} (ys : List E) (m : In x ys) → length ys ≡ suc (length (without ys m))
 unfolding without
 length-without (y ∷ ys) (here e) = refl
 length-without (y ∷ ys) (there m) = ap suc (length-without ys m)
 length-without [] m = elim m [ ]
 
+-- every other member stays
 in-without : {E : Type 0} {x w : E} (ys : List E) (m : In x ys) → (x ≡ w → ⊥) → In w ys → In w (without ys m)
 unfolding without
 in-without (y ∷ ys) (here e) ne (here d) = absurd (ne (e ∙ sym d))

@@ -1,9 +1,10 @@
 -- Tuples of parts, and the derivations that they join to. Assumes nothing.
 use mathlib.Core.Path.{_≡_, refl, sym, _∙_, ap, ap₂, subst}
 use mathlib.Core.List.{List, [], _∷_, _++_, append-nil, tail}
-use Prim.Native.Nat.{ℕ, zero, suc, _+_}
+use Prim.Native.Nat.{ℕ, _+_}
 use native.Mathlib.Omega.{arith}
 use lib.ListN.{length, length-append}
+use Rattle.std.proofs.shelf.Lists.{nil-from-length}
 use Rattle.theory.specs.Lists.{joined}
 use Rattle.theory.specs.Grammar.{Symbol, terminal, nonterminal, CFG, Rule-at, Derives, done, read, expand}
 use Rattle.theory.specs.Sets.{Next, end, next-of, Follow-or-end}
@@ -67,11 +68,6 @@ pub same-parts : {G : CFG} → Predict-sets-apart G → (s A : ℕ) (Ys : List S
     → joined us ≡ joined vs → us ≡ vs
 same-parts {G} ll s A Ys us vs r p q e = one-parts p ll (Follow-or-end G A) (fits-slot s A Ys r) tt vs q e
 
--- a list of length 0 is empty
-pub length-nil : (u : List ℕ) → length u ≡ 0 → u ≡ []
-length-nil [] e = refl
-length-nil (a ∷ u) e = absurd (omega arith)
-
 -- the length of what parts join to
 pub length-joined : (u : List ℕ) (us : List (List ℕ)) → length (joined (u ∷ us)) ≡ length u + length (joined us)
 length-joined u us = length-append u (joined us)
@@ -84,5 +80,5 @@ empty-parts (one {u = u} {us = us} d p) e vs (one {u = v} {us = vs′} d′ p′
     let x = length-joined u us in
     let y = length-joined v vs′ in
     ap₂ {B = List (List ℕ)} {C = List (List ℕ)} (λ (a : List ℕ) r. a ∷ r)
-    (length-nil u (omega arith) ∙ sym (length-nil v (omega arith)))
+    (nil-from-length u (omega arith) ∙ sym (nil-from-length v (omega arith)))
     (empty-parts p (omega arith) vs′ p′ (omega arith))

@@ -2,23 +2,21 @@
 use mathlib.Core.Path.{_≡_, refl, sym, _∙_, ap, subst}
 use mathlib.Core.Bool.{Bool, true, false, cond}
 use mathlib.Core.Logic.{⊎-elim}
-use mathlib.Core.List.{List, [], _∷_, _++_, map}
-use Prim.Native.Nat.{ℕ, zero, suc, _+_, _-_, _≤_, _<_}
-use native.Mathlib.Nat.{le-refl}
-use native.Mathlib.Omega.{arith}
+use mathlib.Core.List.{List, [], _∷_, map}
+use Prim.Native.Nat.{ℕ, zero, suc, _-_}
 use lib.Dec.{eqb}
 use lib.ListN.{length}
 use Rattle.std.proofs.shelf.Tests.{cases-eq, eq-eqb, ne-eqb}
 use Rattle.std.specs.declared.option.Option.{Option}
 use Rattle.std.specs.declared.option.Option.the-variants.{None, Some}
-use Rattle.theory.specs.Lists.{In, here, there, Sorted, Before, joined}
-use Rattle.theory.specs.Grammar.{Symbol, terminal, nonterminal, CFG, Rule-at}
-use Rattle.theory.specs.Order.{LengthOrder, Lists-lengths, Parts, Precedes, Parts-precede, by-slot, by-parts, by-length, by-part, by-rest}
+use Rattle.theory.specs.Lists.{In, Sorted, Before, joined}
+use Rattle.theory.specs.Grammar.{Symbol, terminal, nonterminal, CFG}
+use Rattle.theory.specs.Order.{LengthOrder, Lists-lengths, Precedes, Parts-precede, by-slot, by-parts, by-length, by-part, by-rest}
 use Rattle.theory.specs.Count.{left-of, right-of}
-use Rattle.theory.specs.Enumerate.{Lists, over, pairs, listed-parts, listed-ways, listed-if, listed-slots, listed}
+use Rattle.theory.specs.Enumerate.{Lists, pairs, listed-parts, listed-ways, listed-if, listed-slots, listed}
 use Rattle.theory.proofs.Counting.{is-rule}
 use Rattle.theory.proofs.Members.{from-map, from-pairs, in-over, before-first, sorted-append, sorted-map, sorted-pairs, sorted-over}
-use Rattle.theory.proofs.Parts.{parts-derive, length-joined}
+use Rattle.theory.proofs.Parts.{parts-derive}
 use Rattle.theory.proofs.Complete.{from-if, from-slots, Sound-lists, sound-parts, sound-ways, sound}
 
 -- a list of at most one thing
@@ -36,11 +34,13 @@ abbrev Part-precedes : CFG → LengthOrder → Symbol → List ℕ → List ℕ 
 Part-precedes G order (terminal t) u v = ⊥
 Part-precedes G order (nonterminal A) u v = Precedes G order A u v
 
+-- the parts of one symbol are listed in order
 sorted-parts : (G : CFG) (order : LengthOrder) (S : Lists) → ((A j : ℕ) → Sorted (Precedes G order A) (S A j)) → (X : Symbol) (j : ℕ)
     → Sorted (Part-precedes G order X) (listed-parts S X j)
 sorted-parts G order S h (terminal t) j = sorted-one (λ u v. ⊥) (eqb j 1) (t ∷ [])
 sorted-parts G order S h (nonterminal A) j = h A j
 
+-- the first parts decide by their symbol's own order
 by-own : {G : CFG} {order : LengthOrder} (X : Symbol) {Xs : List Symbol} (u v : List ℕ) (us vs : List (List ℕ)) → Part-precedes G order X u v
     → Parts-precede G order (X ∷ Xs) (u ∷ us) (v ∷ vs)
 by-own (terminal t) u v us vs p = absurd p

@@ -1,11 +1,11 @@
 -- Split order is irreflexive and asymmetric. Assumes nothing.
-use mathlib.Core.Path.{_≡_, refl, sym, _∙_, ap, subst}
-use mathlib.Core.List.{List, [], _∷_, _++_, tail}
-use Prim.Native.Nat.{ℕ, zero, suc, _+_, _≤_, _<_}
+use mathlib.Core.Path.{_≡_, sym, _∙_, ap, subst}
+use mathlib.Core.List.{List, _∷_, tail}
+use Prim.Native.Nat.{ℕ}
 use native.Mathlib.Omega.{arith}
 use lib.ListN.{length}
 use Rattle.theory.specs.Lists.{Before, joined}
-use Rattle.theory.specs.Grammar.{Symbol, nonterminal, CFG, Rule-at, Derives, Sentence}
+use Rattle.theory.specs.Grammar.{Symbol, CFG, Derives, Sentence}
 use Rattle.theory.specs.Sound.{Predict-sets-apart}
 use Rattle.theory.specs.Order.{LengthOrder, Lists-lengths, Parts, Precedes, Parts-precede, by-slot, by-parts, by-length, by-part, by-rest}
 use Rattle.theory.proofs.Unique.{same-slot, same-side, sentence}
@@ -31,6 +31,7 @@ pub preceded : {G : CFG} {order : LengthOrder} {A : ℕ} {v w : List ℕ} → Pr
 preceded (by-slot s s′ Ys Ys′ l lt r r′ d d′) = sentence s′ Ys′ r′ d′
 preceded (by-parts s Ys vs ws l r p q e e′ o) = sentence s Ys r (from-parts q e′)
 
+-- equal tuples have equal first parts
 first-equal : {v w : List ℕ} {vs ws : List (List ℕ)} → v ∷ vs ≡ w ∷ ws → v ≡ w
 first-equal e = cc
 

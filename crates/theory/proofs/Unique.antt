@@ -3,18 +3,21 @@ use mathlib.Core.Path.{_≡_, refl, sym, _∙_, ap, ap₂, subst, subst-refl, pa
 use mathlib.Core.List.{List, [], _∷_, _++_, append-assoc, append-nil, tail}
 use Prim.Native.Nat.{ℕ}
 use native.Mathlib.Omega.{arith}
-use Rattle.theory.specs.Grammar.{Symbol, terminal, nonterminal, CFG, Rule-at, Derives, done, read, expand, Sentence, parse}
+use Rattle.theory.specs.Grammar.{Symbol, nonterminal, CFG, Rule-at, Derives, done, read, expand, Sentence, parse}
 use Rattle.theory.specs.Sets.{Nullable, none, next, First, itself, inside, behind, Follow, from-first, from-left, Next, token, end, next-of, Follow-or-end, Predict, by-first, by-follow}
 use Rattle.theory.specs.Sound.{Predict-sets-apart}
 use Rattle.theory.specs.Count.{right-of}
 
+-- a token list with a first token is not empty
 pub cons-nil : {a : ℕ} {w : List ℕ} → a ∷ w ≡ [] → ⊥
 cons-nil e = let z : _≡_ {A = ℕ} 0 1 = cc in omega arith
 
+-- what comes first in nothing is nothing
 pub append-nil-left : (u v : List ℕ) → u ++ v ≡ [] → u ≡ []
 append-nil-left [] v e = refl
 append-nil-left (a ∷ u) v e = absurd (cons-nil e)
 
+-- what comes last in nothing is nothing
 pub append-nil-right : (u v : List ℕ) → u ++ v ≡ [] → v ≡ []
 append-nil-right [] v e = e
 append-nil-right (a ∷ u) v e = absurd (cons-nil e)
@@ -26,6 +29,7 @@ nullable (read p d) e = absurd (cons-nil e)
 nullable (expand s Ys u v sl ex d₁ d₂) e =
     next s Ys sl (nullable d₁ (append-nil-left u v (sym ex ∙ e))) (nullable d₂ (append-nil-right u v (sym ex ∙ e)))
 
+-- FIRST of an equal terminal
 first-cast : {G : CFG} {Xs : List Symbol} {a b : ℕ} → a ≡ b → First G Xs a → First G Xs b
 first-cast {G} {Xs} e f = subst (λ (c : ℕ). First G Xs c) e f
 
@@ -73,9 +77,11 @@ fits-slot {G} s A Ys sl P Q B e = (λ a f. from-first s A Ys P Q sl e f, λ v n 
 pub same-side : (G : CFG) {s s′ A A′ : ℕ} {Ys Ys′ : List Symbol} → Rule-at G s A Ys → Rule-at G s′ A′ Ys′ → s ≡ s′ → Ys′ ≡ Ys
 same-side G sl sl′ e = ap right-of (sym sl′ ∙ ap (G .slot) (sym e) ∙ sl)
 
+-- a derivation from equal symbols
 recast : {G : CFG} {Ys Ys′ : List Symbol} {w : List ℕ} → Ys′ ≡ Ys → Derives G Ys′ w → Derives G Ys w
 recast {G} {w = w} e d = subst (λ (Zs : List Symbol). Derives G Zs w) e d
 
+-- it uses the same slots
 parse-recast : {G : CFG} {Ys Ys′ : List Symbol} {w : List ℕ} (e : Ys′ ≡ Ys) (d : Derives G Ys′ w) → parse (recast e d) ≡ parse d
 unfolding recast
 parse-recast {G} {w = w} e d =
@@ -136,6 +142,7 @@ one-parse G ll A w d d′ = unique ll d w d′ (Follow-or-end G A) (fits-one A) 
 pub sentence : {G : CFG} {A : ℕ} (s : ℕ) (Ys : List Symbol) {w : List ℕ} → Rule-at G s A Ys → Derives G Ys w → Sentence G A w
 sentence s Ys {w} r d = expand s Ys w [] r (sym (append-nil w)) d done
 
+-- the slot comes first in its parse
 sentence-parse : {G : CFG} {A : ℕ} (s : ℕ) (Ys : List Symbol) {w : List ℕ} (r : Rule-at G s A Ys) (d : Derives G Ys w)
     → parse (sentence s Ys r d) ≡ s ∷ (parse d ++ [])
 unfolding sentence parse

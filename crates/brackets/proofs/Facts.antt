@@ -20,24 +20,29 @@ use Rattle.brackets.specs.Brackets.{bracket-side, bracket-slot, bracket-gramma
 
 -- ---- sides that begin with a terminal, and the empty side, in any grammar
 
+-- FIRST of a side that begins with a terminal is that terminal
 first-terminal : {G : CFG} {t a : ℕ} {Xs Ys : List Symbol} → Ys ≡ terminal t ∷ Xs → First G Ys a → a ≡ t
 first-terminal e (itself f) = cc
 first-terminal e (inside s Zs f p) = let z : _≡_ {A = ℕ} 0 1 = cc in absurd (omega arith)
 first-terminal e (behind n p) = let z : _≡_ {A = ℕ} 0 1 = cc in absurd (omega arith)
 
+-- FIRST of the empty side has nothing
 first-none : {G : CFG} {a : ℕ} {Ys : List Symbol} → Ys ≡ [] → First G Ys a → ⊥
 first-none e (itself f) = let z : _≡_ {A = ℕ} 0 1 = cc in omega arith
 first-none e (inside s Zs f p) = let z : _≡_ {A = ℕ} 0 1 = cc in omega arith
 first-none e (behind n p) = let z : _≡_ {A = ℕ} 0 1 = cc in omega arith
 
+-- a side that begins with a terminal is not nullable
 nullable-terminal : {G : CFG} {t : ℕ} {Xs Ys : List Symbol} → Ys ≡ terminal t ∷ Xs → Nullable G Ys → ⊥
 nullable-terminal e none = let z : _≡_ {A = ℕ} 0 1 = cc in omega arith
 nullable-terminal e (next s Zs f p q) = let z : _≡_ {A = ℕ} 0 1 = cc in omega arith
 
+-- no nonterminal leads it
 leads-terminal : {G : CFG} {t B : ℕ} {Xs Ys : List Symbol} → Ys ≡ terminal t ∷ Xs → Leads G Ys B → ⊥
 leads-terminal e (at-front f) = let z : _≡_ {A = ℕ} 0 1 = cc in omega arith
 leads-terminal e (past n p) = let z : _≡_ {A = ℕ} 0 1 = cc in omega arith
 
+-- none leads the empty side
 leads-none : {G : CFG} {B : ℕ} {Ys : List Symbol} → Ys ≡ [] → Leads G Ys B → ⊥
 leads-none e (at-front f) = let z : _≡_ {A = ℕ} 0 1 = cc in omega arith
 leads-none e (past n p) = let z : _≡_ {A = ℕ} 0 1 = cc in omega arith
@@ -47,6 +52,7 @@ data Form (k s A : ℕ) (Ys : List Symbol) : Type 0 where
   pair : s < k → A ≡ 0 → Ys ≡ bracket-side k s → Form k s A Ys
   nothing : s ≡ k → A ≡ 0 → Ys ≡ [] → Form k s A Ys
 
+-- a rule has one of the two forms
 form : (k s A : ℕ) (Ys : List Symbol) → bracket-slot k s ≡ rule A Ys → Form k s A Ys
 form k s A Ys = go (ltb s k) refl (eqb s k) refl
   where
@@ -83,10 +89,12 @@ module _ (k : ℕ) where
 
   -- ---- the choice
 
+  -- at what may follow the choice is slot k
   at-closing : (n : Next) (B : ℕ) → Follow-or-end (bracket-grammar k) B n → bracket-choice k 0 n ≡ Some k
   at-closing end B p = refl
   at-closing (token a) B p = let h = follow-closes p in let l : k ≤ a = h .0 in let m : a < 2 * k = h .1 in rw (le-ltb a k l, lt-ltb a (2 * k) m)
 
+  -- the choice finds each predicted slot
   chooses : (A s : ℕ) (Ys : List Symbol) (n : Next) → Rule-at (bracket-grammar k) s A Ys → Predict (bracket-grammar k) s n → bracket-choice k A n ≡ Some s
   chooses A s Ys n e (by-first A′ Zs a f p) = go (form k s A′ Zs f)
     where
@@ -99,16 +107,20 @@ module _ (k : ℕ) where
       go (pair l z y) = absurd (nullable-terminal y p)
       go (nothing l z y) = let i : A ≡ 0 = cc in rw i (at-closing n A′ q ∙ ap Some (sym l))
 
+  -- the filled slots are those of nonterminal 0
   left-low : (s : ℕ) → s ≤ k → left-of (bracket-slot k s) ≡ Some 0
   left-low s h = grind arith
 
+  -- what is chosen is a filled slot
   choice-low : (A s : ℕ) (n : Next) → bracket-choice k A n ≡ Some s → (A ≡ 0) × (s ≤ k)
   choice-low A s (token t) e = grind arith
   choice-low A s end e = grind arith
 
+  -- there is no choice at what is no terminal
   no-choice-at : (A t : ℕ) → 2 * k ≤ t → bracket-choice k A (token t) ≡ None
   no-choice-at A t h = grind arith
 
+  -- the choice is as it should be
   bracket-chooses : Chooses (bracket-grammar k) (bracket-choice k)
   bracket-chooses = record {
     own = λ A s n e. let z = choice-low A s n e in left-low s (z .1) ∙ ap Some (sym (z .0));
@@ -118,17 +130,21 @@ module _ (k : ℕ) where
 
   -- ---- limits and levels
 
+  -- the slots above k are empty
   nothing-above : (s : ℕ) → k + 1 ≤ s → bracket-slot k s ≡ empty
   nothing-above s h = grind arith
 
+  -- nonterminal 0 is the only one
   left-zero : {s A : ℕ} {Ys : List Symbol} → Form k s A Ys → A < 1
   left-zero (pair l z y) = omega arith
   left-zero (nothing l z y) = omega arith
 
+  -- right-hand sides are short
   short-side : {s A : ℕ} {Ys : List Symbol} → Form k s A Ys → length Ys ≤ 6
   short-side (pair l z y) = rw y (omega arith)
   short-side (nothing l z y) = rw y (omega arith)
 
+  -- the symbols of a pair are known
   known-in : {s : ℕ} {X : Symbol} → s < k → In X (bracket-side k s) → Known (2 * k) 1 X
   known-in l (here e) = subst (Known (2 * k) 1) (sym e) (omega arith)
   known-in l (there (here e)) = subst (Known (2 * k) 1) (sym e) (omega arith)
@@ -136,10 +152,12 @@ module _ (k : ℕ) where
   known-in l (there (there (there (here e)))) = subst (Known (2 * k) 1) (sym e) (omega arith)
   known-in l (there (there (there (there p)))) = elim p [ ]
 
+  -- the symbols of each right-hand side are known
   known-side : {s A : ℕ} {Ys : List Symbol} {X : Symbol} → Form k s A Ys → In X Ys → Known (2 * k) 1 X
   known-side {X = X} (pair l z y) p = known-in l (subst (λ (Zs : List Symbol). In X Zs) y p)
   known-side {X = X} (nothing l z y) p = elim (subst (λ (Zs : List Symbol). In X Zs) y p) [ ]
 
+  -- the limits hold
   bracket-limits : 1 ≤ k → k ≤ 16 → Limits (bracket-grammar k)
   bracket-limits l h = record {
     terminals-low = omega arith;
@@ -154,10 +172,12 @@ module _ (k : ℕ) where
     side-known = λ s A Ys X e p. known-side (form k s A Ys e) p;
   }
 
+  -- no long right-hand side is nullable
   no-long-side : {s A : ℕ} {Ys : List Symbol} → Form k s A Ys → 2 ≤ length Ys → Nullable (bracket-grammar k) Ys → ⊥
   no-long-side (pair l z y) h p = nullable-terminal y p
   no-long-side (nothing l z y) h p = let i = ap length y in omega arith
 
+  -- there are no left corners
   no-leads : {s A B : ℕ} {Ys : List Symbol} → Form k s A Ys → Leads (bracket-grammar k) Ys B → ⊥
   no-leads (pair l z y) p = leads-terminal y p
   no-leads (nothing l z y) p = leads-none y p
@@ -166,4 +186,4 @@ module _ (k : ℕ) where
   pub bracket-shows : 1 ≤ k → k ≤ 16 → Shows (bracket-grammar k) (bracket-choice k) (λ A. 0)
   bracket-shows l h =
       shows (bracket-limits l h) (λ s A Ys e. no-long-side (form k s A Ys e)) bracket-chooses
-          (record { small = λ A. omega arith; falls = λ A B c. absurd (no-leads (form k (c .slot) A (c .side) (c .holds)) (c .leads)) }) (λ A i. refl)
+      (record { small = λ A. omega arith; falls = λ A B c. absurd (no-leads (form k (c .slot) A (c .side) (c .holds)) (c .leads)) }) (λ A i. refl)

@@ -1,6 +1,8 @@
 -- The number, the stage, the place and the text of each fault. Assumes nothing.
+use mathlib.Core.Bool.{Bool, _&&_}
 use mathlib.Core.List.{List, _++_}
 use Prim.Native.Nat.{ℕ}
+use lib.Dec.{eqb}
 use lib.Chars.{codes}
 use Rattle.std.specs.Written.{decimal}
 use Rattle.fault.specs.declared.Stage.{Stage}
@@ -85,6 +87,10 @@ fault-place (ParseStopped p) = p
 fault-place (NotSpelled p) = p
 fault-place (SettingRefused p) = p
 fault-place (OtherCampaign p) = p
+
+-- two faults are the same where their numbers and their places are
+abbrev pub same-fault : Fault → Fault → Bool
+same-fault f g = eqb (fault-number f) (fault-number g) && eqb (fault-place f) (fault-place g)
 
 -- a fault as text: "fault NUMBER stage STAGE place PLACE"
 abbrev pub fault-text : Fault → List ℕ

@@ -2,7 +2,8 @@
 
 ghost use mathlib.Core.Path.{_≡_};
 ghost use Rattle.std.specs.declared.option.Option.the-variants.{Some};
-ghost use Rattle.fault.specs.Faults.{fault-number, fault-stage, stage-number, memory-place, fault-place, fault-text};
+ghost use Rattle.std.specs.Orderings.{Decides};
+ghost use Rattle.fault.specs.Faults.{fault-number, fault-stage, stage-number, memory-place, fault-place, same-fault, fault-text};
 use std::fmt;
 
 /// Where a fault comes from.
@@ -36,7 +37,7 @@ pub enum Memory {
 }
 
 /// A refusal, with its place.
-#[derive(Clone, Copy, PartialEq, Eq, Debug)]
+#[derive(Clone, Copy, Debug)]
 pub enum Fault {
     /// The file ends before a byte that its record needs; at the offset where that record begins.
     MissingByte(u64),
@@ -135,10 +136,17 @@ impl Fault {
         ensures { λ r. ⌜ r ≡ fault-stage self ⌝ }
     {
         match self {
-            Fault::MissingByte(_) | Fault::UnexpectedMark(_) | Fault::FieldOutOfLimits(_) | Fault::TrailingBytes(_) => Stage::File,
-            Fault::LongNullableSide(_) | Fault::LeftRecursion(_) | Fault::PredictClash(_) => Stage::Grammar,
+            Fault::MissingByte(_)
+            | Fault::UnexpectedMark(_)
+            | Fault::FieldOutOfLimits(_)
+            | Fault::TrailingBytes(_) => Stage::File,
+            Fault::LongNullableSide(_) | Fault::LeftRecursion(_) | Fault::PredictClash(_) =>
+                Stage::Grammar,
             Fault::SpellingClash(_) | Fault::NotSpelled(_) => Stage::Spelling,
-            Fault::TooLong(_) | Fault::ShortMemory(_) | Fault::CountTooLarge(_) | Fault::BrokenCell(_) => Stage::Table,
+            Fault::TooLong(_)
+            | Fault::ShortMemory(_)
+            | Fault::CountTooLarge(_)
+            | Fault::BrokenCell(_) => Stage::Table,
             Fault::NumberTooLarge(_) | Fault::ParseStopped(_) => Stage::Sentence,
             Fault::SettingRefused(_) => Stage::Layer,
             Fault::OtherCampaign(_) => Stage::Tour,
@@ -170,6 +178,24 @@ impl Fault {
         }
     }
 }
+
+// Whether two faults have one number and one place.
+fn same(x: Fault, y: Fault) -> bool
+    ensures { λ r. ⌜ r ≡ same-fault x y ⌝ }
+{
+    x.number() == y.number() && x.place() == y.place()
+}
+
+// Derived, `==` would promise nothing, since there are so many cases.
+pub impl PartialEq<Fault> for Fault as FaultPartialEq {
+    ghost equals = { λ x y r. Decides r (x ≡ y) };
+
+    fn eq(&self, other: &Fault) -> bool {
+        same(*self, *other)
+    }
+}
+
+pub impl Eq for Fault as FaultEq {}
 
 pub impl fmt::Display for Fault as FaultDisplay {
     ghost shown = { λ f. Some (fault-text f) };

@@ -12,6 +12,7 @@ use Rattle.theory.specs.Sound.{Limits, No-long-nullable-side, No-left-recursion
 use Rattle.theory.specs.Count.{left-of, right-of}
 use Rattle.grammar.specs.Interface.{byte-at, Chooses, Shows, Outside-is-none}
 
+-- an option has one value
 same-some : {o : Option ℕ} {r q : ℕ} → o ≡ Some r → o ≡ Some q → r ≡ q
 same-some e f = cc
 

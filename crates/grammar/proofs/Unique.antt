@@ -15,15 +15,18 @@ use Rattle.theory.specs.Sets.{Next}
 use Rattle.theory.specs.Sound.{Known, Limits, Sound, Levels, limits-prop, sound-prop, levels-prop}
 use Rattle.grammar.specs.Interface.{Chooses, Shows, chooses-prop, shows-prop}
 
+-- options of numbers are equal or not
 same-option : Discrete (Option ℕ)
 same-option None None = yes refl
 same-option None (Some y) = no (λ e. let z : _≡_ {A = ℕ} 0 1 = cc in omega arith)
 same-option (Some x) None = no (λ e. let z : _≡_ {A = ℕ} 0 1 = cc in omega arith)
 same-option (Some x) (Some y) = ⊎-elim (λ e. yes (ap Some e)) (λ d. no (λ e. d (cc))) (cases-eq x y)
 
+-- so equations of them have at most one proof
 option-set : IsSet (Option ℕ)
 option-set = hedberg same-option
 
+-- each part has at most one proof
 one-known : (T N : ℕ) (X : Symbol) → IsProp (Known T N X)
 one-known T N (terminal t) = search props
 one-known T N (nonterminal A) = search props

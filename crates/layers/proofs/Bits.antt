@@ -20,6 +20,7 @@ use Rattle.layers.specs.Masks.{bit, all-bits, Keeps-all, Lowest-from}
 next-bit : (n k : ℕ) → bit n (suc k) ≡ bit (n / 2) k
 next-bit n k = ap (λ x. x % 2) (ap (λ x. n / 2 ^ x) (sym (one-add k)) ∙ sym (shr-shr n 1 k))
 
+-- the lowest bit
 first-bit : (n : ℕ) → bit n 0 ≡ n % 2
 first-bit n = ap (λ x. x % 2) (div-one n)
 
@@ -57,12 +58,15 @@ from n r k h =
     let e : r + (k - r) ≡ k = omega arith in
     ap (λ x. n / 2 ^ x % 2) (sym e) ∙ ap (λ x. x % 2) (sym (shr-shr n r (k - r)))
 
+-- the part is no larger than n
 pub part-fits : (n r : ℕ) → n < 2 ^ 64 → n / 2 ^ r * 2 ^ r % 2 ^ 64 ≡ n / 2 ^ r * 2 ^ r
 part-fits n r b = mod-eq-of-lt (lt-of-le-of-lt (div-mul-le-self n (2 ^ r)) b)
 
+-- from r on it has the bits of n
 same-above : (n r k : ℕ) → r ≤ k → bit n k ≡ bit (n / 2 ^ r * 2 ^ r) k
 same-above n r k h = from n r k h ∙ sym (from (n / 2 ^ r * 2 ^ r) r k h ∙ ap (λ x. bit x (k - r)) (shl-shr (n / 2 ^ r) r))
 
+-- below r it has none
 none-below : (a r j : ℕ) → j < r → bit (a * 2 ^ r) j ≡ 0
 none-below a r j h =
     let d : ℕ = r - j - 1 in
@@ -90,6 +94,7 @@ lowest-in-part n r x b e p =
 
 -- ---- the mask of all bits
 
+-- each of its bits is set
 all-ones : (r : ℕ) → r < 64 → bit all-bits r ≡ 1
 all-ones r h =
     let j : ℕ = 64 - r - 1 in

@@ -17,10 +17,12 @@ use Rattle.grammar.proofs.Smaller.{Rules-within, nullable-within, predict-withi
 use Rattle.layers.specs.Masks.{keeps}
 use Rattle.layers.specs.Layered.{kept-slots, kept-choice}
 
+-- a slot that is filled after emptying was kept
 filled : (b : Bool) (o : Slot) {A : ℕ} {Ys : List Symbol} → cond b o empty ≡ rule A Ys → (b ≡ true) × (o ≡ rule A Ys)
 filled true o e = (refl, e)
 filled false o e = let z : _≡_ {A = ℕ} 0 1 = cc in absurd (omega arith)
 
+-- the same of a choice
 some-kept : (b : Bool) {q s : ℕ} → cond b (Some q) None ≡ Some s → (b ≡ true) × (q ≡ s)
 some-kept true e = (refl, cc)
 some-kept false e = let z : _≡_ {A = ℕ} 0 1 = cc in absurd (omega arith)
@@ -33,9 +35,11 @@ chose m (Some q) {s} e =
     (ap (keeps m) (sym (h .1)) ∙ h .0, ap Some (h .1))
 
 module _ (G : CFG) (m : ℕ) where
+  -- no rule but those of the grammar below
   within : Rules-within (kept-slots G m) G
   within s A Ys e = filled (keeps m s) (G .slot s) e .1
 
+  -- the limits hold
   kept-limits : Limits G → Limits (kept-slots G m)
   kept-limits l = record {
     terminals-low = l .terminals-low;
@@ -50,6 +54,7 @@ module _ (G : CFG) (m : ℕ) where
     side-known = λ s A Ys X e p. l .side-known s A Ys X (within s A Ys e) p;
   }
 
+  -- the choice is as it should be
   kept-chooses : (chosen : ℕ → Next → Option ℕ) → Chooses G chosen → Chooses (kept-slots G m) (λ A n. kept-choice m (chosen A n))
   kept-chooses chosen c = record {
     own = λ A s n e.
@@ -61,11 +66,12 @@ module _ (G : CFG) (m : ℕ) where
     known = λ A t h. ap (kept-choice m) (c .known A t h);
   }
 
+  -- the levels fall
   kept-levels : {level : ℕ → ℕ} → Levels G level → Levels (kept-slots G m) level
   kept-levels v = record { small = v .small; falls = λ A B p. v .falls A B (corner-within (kept-slots G m) G within p) }
 
   -- the restricted grammar shows what it owes
-  pub kept-shows : (chosen : ℕ → Next → Option ℕ) (level : ℕ → ℕ) → Shows G chosen level → Shows (kept-slots G m) (λ A n. kept-choice m (chosen A n)) level
-  kept-shows chosen level s =
+  pub restricted-shows : (chosen : ℕ → Next → Option ℕ) (level : ℕ → ℕ) → Shows G chosen level → Shows (kept-slots G m) (λ A n. kept-choice m (chosen A n)) level
+  restricted-shows chosen level s =
       shows (kept-limits (s .limits)) (λ i A Ys e h p. s .sound .no-long-nullable-side i A Ys (within i A Ys e) h (nullable-within (kept-slots G m) G within p))
-          (kept-chooses chosen (s .choice)) (kept-levels (s .levels)) (s .level-outside)
+      (kept-chooses chosen (s .choice)) (kept-levels (s .levels)) (s .level-outside)

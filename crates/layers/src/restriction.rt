@@ -50,7 +50,10 @@ impl<G> Restriction<G> {
         ensures mask { λ r. ⌜ r .mask ≡ all-bits ⌝ }
         ensures keeps { λ r. ⌜ Keeps-all (r .mask) ⌝ }
     {
-        Restriction { below, mask: all_slots() }
+        Restriction {
+            below,
+            mask: all_slots(),
+        }
     }
 
     /// Keeps every slot again.
@@ -82,7 +85,13 @@ impl<G> Restriction<G> {
         ensures mask { λ r. ⌜ r .0 .mask ≡ self .mask ⌝ }
         ensures old { λ r. ⌜ r .1 ≡ self .below ⌝ }
     {
-        (Restriction { below, mask: self.mask }, self.below)
+        (
+            Restriction {
+                below,
+                mask: self.mask,
+            },
+            self.below,
+        )
     }
 }
 

@@ -46,7 +46,13 @@ impl<G> StartChange<G> {
         ensures start { λ r. ⌜ r .0 .start ≡ self .start ⌝ }
         ensures old { λ r. ⌜ r .1 ≡ self .below ⌝ }
     {
-        (StartChange { below, start: self.start }, self.below)
+        (
+            StartChange {
+                below,
+                start: self.start,
+            },
+            self.below,
+        )
     }
 }
 

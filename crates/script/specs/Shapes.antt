@@ -1,0 +1,40 @@
+-- The shapes of the arguments of commands, and when words have none of a shape.
+use mathlib.Core.List.{List, [], _∷_}
+use Prim.Native.Nat.{ℕ}
+use Rattle.script.specs.Says.{Argument, number, byte, any, size, choice-arguments, Write}
+use Rattle.script.specs.declared.keyword.Keyword.{Keyword}
+use Rattle.script.specs.declared.keyword.Keyword.the-variants as key
+use Rattle.script.specs.declared.NextWord.{NextWord}
+
+-- none, one, two or three numbers up to a limit, or those of a choice
+pub data Shape : Type 0 where
+  none : Shape
+  one : ℕ → Shape
+  two : ℕ → Shape
+  three : ℕ → Shape
+  choice : Shape
+
+-- the shape of a keyword's arguments
+abbrev pub shape : Keyword → Shape
+shape key.Brackets = one 255
+shape key.Neutral = none
+shape key.Restrict = one 18446744073709551615
+shape key.Start = one 255
+shape key.Choice = choice
+shape key.Level = one 255
+shape key.Memory = three 1000000
+shape key.Bound = one 18446744073709551615
+shape key.Count = none
+shape key.Check = none
+shape key.Table = none
+shape key.Cell = one 18446744073709551615
+shape key.Flip = two 18446744073709551615
+shape key.Poke = two 18446744073709551615
+
+-- no arguments of a shape are written by the words
+abbrev pub Refused : Shape → List (List ℕ) → Type 0
+Refused none ws = Write [] ws → ⊥
+Refused (one l) ws = (a : ℕ) → Write (number l a ∷ []) ws → ⊥
+Refused (two l) ws = (a b : ℕ) → Write (number l a ∷ number l b ∷ []) ws → ⊥
+Refused (three l) ws = (a b c : ℕ) → Write (number l a ∷ number l b ∷ number l c ∷ []) ws → ⊥
+Refused choice ws = (a : ℕ) (next : NextWord) → Write (choice-arguments a next) ws → ⊥

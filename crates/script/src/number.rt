@@ -1,0 +1,39 @@
+//! Decimal numbers.
+
+ghost use Prim.Native.Nat.{ℕ, _+_, _<_, _≤_};
+ghost use Rattle.script.specs.Text.{Digit, Numeral};
+ghost use Rattle.std.specs.Options.{Cases as BySome};
+ghost use mathlib.Core.Path.{_≡_};
+
+/// The value of a decimal digit.
+fn digit(byte: u8) -> Option<u64>
+    ensures { λ r. ⌜ BySome r (Digit byte → ⊥) (λ d. Digit byte × (d + 48 ≡ byte)) ⌝ }
+{
+    match byte {
+        b'0'..=b'9' => Some((byte - b'0') as u64),
+        _ => None,
+    }
+}
+
+/// The value of a word of decimal digits, below 2 to the 64.
+fn number(word: &[u8]) -> Option<u64>
+    ensures { λ r. ⌜ BySome r ((v : ℕ) → Numeral (now (word .entry)) v → v ≤ 18446744073709551615 → ⊥) (λ v. Numeral (now (word .entry)) v) ⌝ }
+{
+    if word.is_empty() {
+        return None;
+    }
+    let mut value: u64 = 0;
+    for byte in word {
+        let digit = digit(*byte)?;
+        value = value.checked_mul(10)?.checked_add(digit)?;
+    }
+    Some(value)
+}
+
+/// The value of a word of decimal digits, at most a limit.
+pub fn number_up_to(word: &[u8], limit: u64) -> Option<u64>
+    ensures { λ r. ⌜ BySome r ((v : ℕ) → Numeral (now (word .entry)) v → v ≤ limit → ⊥) (λ v. Numeral (now (word .entry)) v × (v ≤ limit)) ⌝ }
+{
+    let value = number(word)?;
+    if value > limit { None } else { Some(value) }
+}

@@ -1,5 +1,5 @@
 -- The words of a text: cutting it at its spaces and joining words by spaces undo each other.
-use mathlib.Core.Path.{_≡_, refl, sym, _∙_, ap}
+use mathlib.Core.Path.{_≡_, refl, sym, _∙_, ap, subst}
 use mathlib.Core.Bool.{Bool, true, false, cond, _&&_, not}
 use mathlib.Core.List.{List, [], _∷_, _++_}
 use Prim.Native.Nat.{ℕ, zero, suc, _+_, _<_, _≤_, zero-le, suc-le-suc}
@@ -8,7 +8,11 @@ use lib.Dec.{eqb}
 use lib.ListN.{length, getD, take, drop}
 use borrow.Author.Tests.{eq-eqb, eqb-true, eqb-false}
 use Rattle.script.specs.Text.{followed, spaced}
-use Rattle.script.specs.Cut.{onto, cut}
+use denote.Ref.{RefT}
+use Rattle.std.proofs.shelf.Lists.{take-append-drop, drop-more, append-nil, take-all}
+use Rattle.std.specs.declared.option.Option.{Option}
+use Rattle.std.specs.declared.option.Option.the-variants.{Some, None}
+use Rattle.script.specs.Cut.{onto, cut, left-of}
 
 -- there is a word
 abbrev pub Some-word : List (List ℕ) → Type 0
@@ -85,6 +89,25 @@ plain-take t zero h = refl
 plain-take [] (suc i) h = refl
 plain-take (b ∷ bs) (suc i) h = plain-step b (take i bs) (eqb b 32) refl (h 0 (omega arith)) (plain-take bs i (none-tail b bs i h))
 
+split-at : (t : List ℕ) (i : ℕ) → i < length t → getD t i 0 ≡ 32 → t ≡ take i t ++ (32 ∷ drop (i + 1) t)
+split-at t i l e = sym (take-append-drop i t) ∙ ap (λ (x : List ℕ). take i t ++ x) (drop-more t i 0 l ∙ ap (λ (b : ℕ). b ∷ drop (i + 1) t) e)
+
 -- the first word of a text with a space, and the others
-pub cut-at : (t : List ℕ) (i : ℕ) → None-before t i → t ≡ take i t ++ (32 ∷ drop (i + 1) t) → cut t ≡ take i t ∷ cut (drop (i + 1) t)
-cut-at t i h e = ap cut e ∙ cut-front (take i t) (32 ∷ drop (i + 1) t) (cut (drop (i + 1) t)) (plain-take t i h) refl
+pub cut-at : (t : List ℕ) (i : ℕ) → i < length t → getD t i 0 ≡ 32 → None-before t i → cut t ≡ take i t ∷ cut (drop (i + 1) t)
+cut-at t i l e h = ap cut (split-at t i l e) ∙ cut-front (take i t) (32 ∷ drop (i + 1) t) (cut (drop (i + 1) t)) (plain-take t i h) refl
+
+-- the only word of a text without a space
+pub cut-all : (t : List ℕ) (i : ℕ) → length t ≤ i → None-before t i → cut t ≡ take i t ∷ []
+cut-all t i l h = ap cut (sym (append-nil t) ∙ ap (λ (x : List ℕ). x ++ []) (sym (take-all i t l))) ∙ cut-front (take i t) [] [] (plain-take t i h) refl
+
+-- some words are left of a text
+pub left-some : (o : Option (RefT (List ℕ))) (t : RefT (List ℕ)) → o ≡ Some t → left-of o ≡ [] → ⊥
+left-some o t p e = let s : Some-word (left-of o) = subst (λ (x : Option (RefT (List ℕ))). Some-word (left-of x)) (sym p) (cut-some (t .now)) in subst Some-word e s
+
+-- the next word of a text with a space
+pub next-word : (o q : Option (RefT (List ℕ))) (t u : RefT (List ℕ)) (i : ℕ) → o ≡ Some t → q ≡ Some u → u .now ≡ drop (i + 1) (t .now) → i < length (t .now) → getD (t .now) i 0 ≡ 32 → None-before (t .now) i → left-of o ≡ take i (t .now) ∷ left-of q
+next-word o q t u i p r d l e h = ap left-of p ∙ cut-at (t .now) i l e h ∙ ap (λ (x : List (List ℕ)). take i (t .now) ∷ x) (sym (ap left-of r ∙ ap cut d))
+
+-- the last word of a text
+pub last-word : (o q : Option (RefT (List ℕ))) (t : RefT (List ℕ)) (i : ℕ) → o ≡ Some t → q ≡ None → length (t .now) ≤ i → None-before (t .now) i → left-of o ≡ take i (t .now) ∷ left-of q
+last-word o q t i p r l h = ap left-of p ∙ cut-all (t .now) i l h ∙ ap (λ (x : List (List ℕ)). take i (t .now) ∷ x) (sym (ap left-of r))

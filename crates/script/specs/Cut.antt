@@ -3,6 +3,8 @@ use mathlib.Core.Bool.{cond}
 use mathlib.Core.List.{List, [], _∷_}
 use Prim.Native.Nat.{ℕ}
 use lib.Dec.{eqb}
+use denote.Ref.{RefT}
+use Rattle.std.specs.declared.option.Option.{Option}
 use Rattle.std.specs.declared.option.Option.the-variants.{Some, None}
 use Rattle.script.specs.declared.words.Words.{Words}
 
@@ -17,5 +19,9 @@ cut [] = [] ∷ []
 cut (b ∷ bs) = cond (eqb b 32) ([] ∷ cut bs) (onto b (cut bs))
 
 -- the words that are not read yet
+abbrev pub left-of : Option (RefT (List ℕ)) → List (List ℕ)
+left-of None = []
+left-of (Some t) = cut (t .now)
+
 abbrev pub left : Words → List (List ℕ)
-left words = elim (words .rest) [ None ↦ [] | Some t ↦ cut (t .now) ]
+left words = left-of (words .rest)

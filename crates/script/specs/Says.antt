@@ -66,10 +66,10 @@ any v = number 18446744073709551615 v
 abbrev pub size : ℕ → Argument
 size v = number 1000000 v
 
--- the arguments of a choice
-abbrev pub choice-arguments : ℕ → NextWord → List Argument
-choice-arguments nonterminal (Terminal t) = byte nonterminal ∷ byte t ∷ []
-choice-arguments nonterminal End = byte nonterminal ∷ end ∷ []
+-- the second argument of a choice
+abbrev pub next-argument : NextWord → Argument
+next-argument (Terminal t) = byte t
+next-argument End = end
 
 -- the arguments of a command, in their order
 abbrev pub arguments : Command → List Argument
@@ -77,7 +77,7 @@ arguments (Brackets kinds) = byte kinds ∷ []
 arguments Neutral = []
 arguments (Restrict mask) = any mask ∷ []
 arguments (Start start) = byte start ∷ []
-arguments (Choice nonterminal next) = choice-arguments nonterminal next
+arguments (Choice nonterminal next) = byte nonterminal ∷ next-argument next ∷ []
 arguments (Level nonterminal) = byte nonterminal ∷ []
 arguments (Memory cells stack output) = size cells ∷ size stack ∷ size output ∷ []
 arguments (Bound bound) = any bound ∷ []

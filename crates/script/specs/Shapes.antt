@@ -1,17 +1,19 @@
 -- The shapes of the arguments of commands, and when words have none of a shape.
+use mathlib.Core.Path.{_≡_}
 use mathlib.Core.List.{List, [], _∷_}
 use Prim.Native.Nat.{ℕ}
-use Rattle.script.specs.Says.{Argument, number, byte, any, size, choice-arguments, Write}
+use Rattle.script.specs.Says.{Argument, number, byte, any, size, next-argument, Writes, Write}
 use Rattle.script.specs.declared.keyword.Keyword.{Keyword}
 use Rattle.script.specs.declared.keyword.Keyword.the-variants as key
 use Rattle.script.specs.declared.NextWord.{NextWord}
 
--- none, one, two or three numbers up to a limit, or those of a choice
+-- none, one, two or three numbers up to a limit, what comes next, or a byte and what comes next
 pub data Shape : Type 0 where
   none : Shape
   one : ℕ → Shape
   two : ℕ → Shape
   three : ℕ → Shape
+  next : Shape
   choice : Shape
 
 -- the shape of a keyword's arguments
@@ -31,10 +33,19 @@ shape key.Cell = one 18446744073709551615
 shape key.Flip = two 18446744073709551615
 shape key.Poke = two 18446744073709551615
 
+-- the first of the words writes the number v up to a limit, and the others are left
+abbrev pub First-number : ℕ → ℕ → List (List ℕ) → List (List ℕ) → Type 0
+First-number limit v ws rest = (w : List ℕ) × (ws ≡ w ∷ rest) × Writes (number limit v) w
+
+-- the first of the words is no number up to a limit
+abbrev pub No-number : ℕ → List (List ℕ) → Type 0
+No-number limit ws = (v : ℕ) (rest : List (List ℕ)) → First-number limit v ws rest → ⊥
+
 -- no arguments of a shape are written by the words
 abbrev pub Refused : Shape → List (List ℕ) → Type 0
 Refused none ws = Write [] ws → ⊥
 Refused (one l) ws = (a : ℕ) → Write (number l a ∷ []) ws → ⊥
 Refused (two l) ws = (a b : ℕ) → Write (number l a ∷ number l b ∷ []) ws → ⊥
 Refused (three l) ws = (a b c : ℕ) → Write (number l a ∷ number l b ∷ number l c ∷ []) ws → ⊥
-Refused choice ws = (a : ℕ) (next : NextWord) → Write (choice-arguments a next) ws → ⊥
+Refused next ws = (x : NextWord) → Write (next-argument x ∷ []) ws → ⊥
+Refused choice ws = (a : ℕ) (x : NextWord) → Write (byte a ∷ next-argument x ∷ []) ws → ⊥

@@ -23,8 +23,8 @@ pub enum Keyword {
     Poke,
 }
 
-/// The keyword that a word is.
-pub fn find_keyword(word: &str) -> Option<Keyword>
+/// The keyword that a text is.
+fn named(word: &str) -> Option<Keyword>
     ensures { λ r. ⌜ BySome r ((k : Keyword) → now (word .entry) ≡ text k → ⊥) (λ k. now (word .entry) ≡ text k) ⌝ }
 {
     match word {
@@ -43,5 +43,15 @@ pub fn find_keyword(word: &str) -> Option<Keyword>
         "flip" => Some(Keyword::Flip),
         "poke" => Some(Keyword::Poke),
         _ => None,
+    }
+}
+
+/// The keyword that a word is.
+pub fn find_keyword(word: &[u8]) -> Option<Keyword>
+    ensures { λ r. ⌜ BySome r ((k : Keyword) → now (word .entry) ≡ text k → ⊥) (λ k. now (word .entry) ≡ text k) ⌝ }
+{
+    match std::str::from_utf8(word) {
+        Ok(name) => named(name),
+        Err(_) => None,
     }
 }

@@ -57,7 +57,6 @@ fn is_blank(line: &[u8]) -> bool {
 fn read_command(text: &[u8]) -> Option<Command> {
     let mut words = Words::of(text);
     let word = words.next()?;
-    let Ok(word) = std::str::from_utf8(word) else { return None; };
     let keyword = find_keyword(word)?;
     arguments::read(keyword, words)
 }

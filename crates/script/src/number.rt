@@ -1,16 +1,16 @@
 //! Decimal numbers.
 
-ghost use Prim.Native.Nat.{ℕ, _+_, _<_, _≤_};
+ghost use Prim.Native.Nat.{ℕ, _*_, _+_, _-_, _≤_};
 ghost use Rattle.script.specs.Text.{Digit, Numeral};
 ghost use Rattle.std.specs.Options.{Cases as BySome};
 ghost use mathlib.Core.Path.{_≡_};
 
-/// The value of a decimal digit.
-fn digit(byte: u8) -> Option<u64>
-    ensures { λ r. ⌜ BySome r (Digit byte → ⊥) (λ d. Digit byte × (d + 48 ≡ byte)) ⌝ }
+/// The value of the digits so far with one more digit, below 2 to the 64.
+fn push_digit(value: u64, byte: u8) -> Option<u64>
+    ensures { λ r. ⌜ BySome r (Digit byte → value * 10 + (byte - 48) ≤ 18446744073709551615 → ⊥) (λ v. Digit byte × (v ≡ value * 10 + (byte - 48))) ⌝ }
 {
     match byte {
-        b'0'..=b'9' => Some((byte - b'0') as u64),
+        b'0'..=b'9' => value.checked_mul(10)?.checked_add((byte - b'0') as u64),
         _ => None,
     }
 }
@@ -24,8 +24,7 @@ fn number(word: &[u8]) -> Option<u64>
     }
     let mut value: u64 = 0;
     for byte in word {
-        let digit = digit(*byte)?;
-        value = value.checked_mul(10)?.checked_add(digit)?;
+        value = push_digit(value, *byte)?;
     }
     Some(value)
 }

@@ -5,6 +5,9 @@ use Prim.Native.Nat.{ℕ, _≤_}
 use Rattle.std.specs.Options.{Cases}
 use Rattle.std.specs.declared.option.Option.{Option}
 use Rattle.std.specs.declared.option.Option.the-variants.{Some, None}
+use lib.Chars.{codes}
+use Rattle.script.specs.declared.NextWord.{NextWord}
+use Rattle.script.specs.declared.NextWord.the-variants.{Terminal, End}
 use Rattle.script.specs.Text.{Numeral}
 use Rattle.script.specs.Says.{Argument, number, byte, next-argument, Writes, Write}
 use Rattle.script.specs.Shapes.{First-number, No-number, Refused, one, two, three, next, choice}
@@ -57,3 +60,8 @@ first-word a more ws w rest e h m = subst (Write (a ∷ more)) (sym e) (h, m)
 pub write-limit : (limit a : ℕ) (more : List Argument) (ws : List (List ℕ)) → Write (number limit a ∷ more) ws → a ≤ limit
 write-limit limit a more [] h = absurd h
 write-limit limit a more (w ∷ ws) h = h .0 .1
+
+-- a word that is neither `end` nor a number of one byte
+pub no-next : (w : List ℕ) → (w ≡ codes "end" → ⊥) → ((v : ℕ) → Numeral w v → v ≤ 255 → ⊥) → (x : NextWord) → Writes (next-argument x) w → ⊥
+no-next w e h (Terminal t) p = h t (p .0) (p .1)
+no-next w e h End p = e p

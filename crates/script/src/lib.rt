@@ -1,5 +1,12 @@
 //! Reads a line of a console script into a command.
 
+ghost use Prim.Native.Nat.{ℕ, _≤_};
+ghost use Rattle.script.specs.Laws.{Every-command, One-command};
+ghost use Rattle.script.specs.Says.{Is-blank, Reads, Says};
+ghost use Rattle.std.specs.Options.{Cases as BySome};
+ghost use Rattle.std.specs.Orderings.{Decides};
+ghost use mathlib.Core.Path.{_≡_};
+
 mod arguments;
 mod keyword;
 mod number;
@@ -46,7 +53,9 @@ pub enum Line {
 const LONGEST: usize = 1_000_000;
 
 /// Whether a line is empty or a comment.
-fn is_blank(line: &[u8]) -> bool {
+fn is_blank(line: &[u8]) -> bool
+    ensures { λ r. ⌜ Decides r (Is-blank (now (line .entry))) ⌝ }
+{
     match line {
         [] => true,
         [first, ..] => *first == b'#',
@@ -54,7 +63,9 @@ fn is_blank(line: &[u8]) -> bool {
 }
 
 /// The command that a text says.
-fn read_command(text: &[u8]) -> Option<Command> {
+fn read_command(text: &[u8]) -> Option<Command>
+    ensures { λ r. ⌜ BySome r ((c : Command) → Says (now (text .entry)) c → ⊥) (λ c. Says (now (text .entry)) c) ⌝ }
+{
     let mut words = Words::of(text);
     let word = words.next()?;
     let keyword = find_keyword(word)?;
@@ -62,7 +73,10 @@ fn read_command(text: &[u8]) -> Option<Command> {
 }
 
 /// Reads a line, given without its line feed.
-pub fn read_line(line: &[u8]) -> Line {
+pub fn read_line(line: &[u8]) -> Line
+    ensures reads { λ r. ⌜ Reads (now (line .entry)) r ⌝ }
+    ensures only { λ r. ⌜ ((other : Line) → Reads (now (line .entry)) other → other ≡ r) ⌝ }
+{
     if is_blank(line) {
         return Line::Blank;
     }
@@ -73,4 +87,16 @@ pub fn read_line(line: &[u8]) -> Line {
         Some(command) => Line::Command(command),
         None => Line::Unreadable,
     }
+}
+
+/// No line says two commands.
+pub fn line_says_one()
+    ensures { λ _. ⌜ One-command ⌝ }
+{
+}
+
+/// Each command within its limits has a line that says it.
+pub fn command_has_line()
+    ensures { λ _. ⌜ Every-command ⌝ }
+{
 }

@@ -9,7 +9,7 @@ use lib.Chars.{codes}
 use Rattle.script.specs.declared.NextWord.{NextWord}
 use Rattle.script.specs.declared.NextWord.the-variants.{Terminal, End}
 use Rattle.script.specs.Text.{Numeral}
-use Rattle.script.specs.Says.{Argument, number, byte, next-argument, Writes, Write}
+use Rattle.script.specs.Says.{Argument, number, byte, next-argument, Writes, Write-all}
 use Rattle.script.specs.Shapes.{First-number, No-number, Refused, one, two, three, next, choice}
 
 -- the next word read as a number
@@ -18,7 +18,7 @@ number-next None limit w ws rest e h = λ v more f. let same : f .0 ≡ w = cc i
 number-next (Some v) limit w ws rest e h = (w, e, h)
 
 -- words that begin with no number
-first-refused : (limit : ℕ) (ws : List (List ℕ)) → No-number limit ws → (a : ℕ) (more : List Argument) → Write (number limit a ∷ more) ws → ⊥
+first-refused : (limit : ℕ) (ws : List (List ℕ)) → No-number limit ws → (a : ℕ) (more : List Argument) → Write-all (number limit a ∷ more) ws → ⊥
 first-refused limit [] h a more x = x
 first-refused limit (w ∷ ws) h a more x = h a ws (w, refl, x .0)
 
@@ -35,9 +35,9 @@ pub first-choice : (ws : List (List ℕ)) → No-number 255 ws → Refused choic
 first-choice ws h a x = first-refused 255 ws h a (next-argument x ∷ [])
 
 -- words of which those after the first are refused
-rest-refused : (ws : List (List ℕ)) (w : List ℕ) (rest : List (List ℕ)) → ws ≡ w ∷ rest → (a : Argument) (more : List Argument) → (Write more rest → ⊥) → Write (a ∷ more) ws → ⊥
+rest-refused : (ws : List (List ℕ)) (w : List ℕ) (rest : List (List ℕ)) → ws ≡ w ∷ rest → (a : Argument) (more : List Argument) → (Write-all more rest → ⊥) → Write-all (a ∷ more) ws → ⊥
 rest-refused [] w rest e a more h x = x
-rest-refused (v ∷ vs) w rest e a more h x = let same : vs ≡ rest = cc in h (subst (Write more) same (x .1))
+rest-refused (v ∷ vs) w rest e a more h x = let same : vs ≡ rest = cc in h (subst (Write-all more) same (x .1))
 
 pub rest-two : (limit v : ℕ) (ws rest : List (List ℕ)) → First-number limit v ws rest → Refused (one limit) rest → Refused (two limit) ws
 rest-two limit v ws rest f h a b = rest-refused ws (f .0) rest (f .1) (number limit a) (number limit b ∷ []) (h b)
@@ -49,15 +49,15 @@ pub rest-choice : (v : ℕ) (ws rest : List (List ℕ)) → First-number 255 v w
 rest-choice v ws rest f h a x = rest-refused ws (f .0) rest (f .1) (byte a) (next-argument x ∷ []) (h x)
 
 -- the only word
-pub only-word : (a : Argument) (ws : List (List ℕ)) (w : List ℕ) → ws ≡ w ∷ [] → Writes a w → Write (a ∷ []) ws
-only-word a ws w e h = subst (Write (a ∷ [])) (sym e) (h, tt)
+pub only-word : (a : Argument) (ws : List (List ℕ)) (w : List ℕ) → ws ≡ w ∷ [] → Writes a w → Write-all (a ∷ []) ws
+only-word a ws w e h = subst (Write-all (a ∷ [])) (sym e) (h, tt)
 
 -- a word in front of others
-pub first-word : (a : Argument) (more : List Argument) (ws : List (List ℕ)) (w : List ℕ) (rest : List (List ℕ)) → ws ≡ w ∷ rest → Writes a w → Write more rest → Write (a ∷ more) ws
-first-word a more ws w rest e h m = subst (Write (a ∷ more)) (sym e) (h, m)
+pub first-word : (a : Argument) (more : List Argument) (ws : List (List ℕ)) (w : List ℕ) (rest : List (List ℕ)) → ws ≡ w ∷ rest → Writes a w → Write-all more rest → Write-all (a ∷ more) ws
+first-word a more ws w rest e h m = subst (Write-all (a ∷ more)) (sym e) (h, m)
 
 -- a number that is written is at most its limit
-pub write-limit : (limit a : ℕ) (more : List Argument) (ws : List (List ℕ)) → Write (number limit a ∷ more) ws → a ≤ limit
+pub write-limit : (limit a : ℕ) (more : List Argument) (ws : List (List ℕ)) → Write-all (number limit a ∷ more) ws → a ≤ limit
 write-limit limit a more [] h = absurd h
 write-limit limit a more (w ∷ ws) h = h .0 .1
 

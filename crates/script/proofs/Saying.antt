@@ -12,7 +12,7 @@ use Rattle.std.specs.declared.option.Option.{Option}
 use Rattle.std.specs.declared.option.Option.the-variants.{Some, None}
 use Rattle.script.specs.Text.{Numeral, spaced, decimal-after}
 use Rattle.script.specs.Cut.{cut}
-use Rattle.script.specs.Says.{Argument, number, end, text, keyword-of, arguments, Writes, Write, Says, Is-blank, Reads}
+use Rattle.script.specs.Says.{Argument, number, end, text, keyword-of, arguments, Writes, Write-all, Says, Is-blank, Reads}
 use Rattle.script.specs.Shapes.{Refused, shape}
 use Rattle.script.specs.Laws.{One-command}
 use Rattle.script.specs.declared.keyword.Keyword.{Keyword}
@@ -33,7 +33,7 @@ writes-plain : (a : Argument) (w : List ℕ) → Writes a w → plain w ≡ true
 writes-plain (number l v) w h = numeral-plain w v (h .0)
 writes-plain end w h = ap plain h
 
-write-plain : (more : List Argument) (ws : List (List ℕ)) → Write more ws → Plain ws
+write-plain : (more : List Argument) (ws : List (List ℕ)) → Write-all more ws → Plain ws
 write-plain [] [] h = tt
 write-plain [] (w ∷ ws) h = absurd h
 write-plain (a ∷ more) [] h = absurd h
@@ -44,12 +44,12 @@ pub says-cut : (bytes : List ℕ) (c : Command) (s : Says bytes c) → cut bytes
 says-cut bytes c s = ap cut (s .joined) ∙ cut-spaced (text (keyword-of c)) (s .words) (plain-text (keyword-of c)) (write-plain (arguments c) (s .words) (s .written))
 
 -- a command whose keyword and arguments are the words of a line
-pub says-from : (bytes w : List ℕ) (rest : List (List ℕ)) (k : Keyword) (c : Command) → cut bytes ≡ w ∷ rest → w ≡ text k → keyword-of c ≡ k → Write (arguments c) rest → Says bytes c
+pub says-from : (bytes w : List ℕ) (rest : List (List ℕ)) (k : Keyword) (c : Command) → cut bytes ≡ w ∷ rest → w ≡ text k → keyword-of c ≡ k → Write-all (arguments c) rest → Says bytes c
 says-from bytes w rest k c e f g h =
     record { words = rest; joined = sym (spaced-cut bytes) ∙ ap spaced (e ∙ ap (λ (x : List ℕ). x ∷ rest) (f ∙ ap text (sym g))); written = h }
 
 -- arguments of a command are none where its shape is refused
-refuse : (c : Command) (ws : List (List ℕ)) → Refused (shape (keyword-of c)) ws → Write (arguments c) ws → ⊥
+refuse : (c : Command) (ws : List (List ℕ)) → Refused (shape (keyword-of c)) ws → Write-all (arguments c) ws → ⊥
 refuse (Brackets v) ws h = h v
 refuse Neutral ws h = h
 refuse (Restrict v) ws h = h v
@@ -79,7 +79,7 @@ says-refused bytes w rest k e f h c s =
     refuse c (s .words) (subst (λ (x : List (List ℕ)). Refused (shape (keyword-of c)) x) r (subst (λ (x : Keyword). Refused (shape x) rest) i h)) (s .written)
 
 -- what is read of the words of a line
-pub says-read : (bytes w : List ℕ) (rest : List (List ℕ)) (k : Keyword) (o : Option Command) → cut bytes ≡ w ∷ rest → w ≡ text k → Cases o (Refused (shape k) rest) (λ c. (keyword-of c ≡ k) × Write (arguments c) rest) → Cases o ((c : Command) → Says bytes c → ⊥) (λ c. Says bytes c)
+pub says-read : (bytes w : List ℕ) (rest : List (List ℕ)) (k : Keyword) (o : Option Command) → cut bytes ≡ w ∷ rest → w ≡ text k → Cases o (Refused (shape k) rest) (λ c. (keyword-of c ≡ k) × Write-all (arguments c) rest) → Cases o ((c : Command) → Says bytes c → ⊥) (λ c. Says bytes c)
 says-read bytes w rest k None e f h = says-refused bytes w rest k e f h
 says-read bytes w rest k (Some c) e f h = says-from bytes w rest k c e f (h .0) (h .1)
 
@@ -101,7 +101,7 @@ writes-same (number l v) end w g h = absurd (not-end w v (g .0) h)
 writes-same end (number m u) w g h = absurd (not-end w u (h .0) g)
 writes-same end end w g h = refl
 
-write-same : (more bs : List Argument) (ws : List (List ℕ)) → Write more ws → Write bs ws → map value-of more ≡ map value-of bs
+write-same : (more bs : List Argument) (ws : List (List ℕ)) → Write-all more ws → Write-all bs ws → map value-of more ≡ map value-of bs
 write-same [] [] ws g h = refl
 write-same [] (b ∷ bs) [] g h = absurd h
 write-same [] (b ∷ bs) (w ∷ ws) g h = absurd g
@@ -160,7 +160,7 @@ one-command bytes c d s t =
     let g : text (keyword-of c) ≡ text (keyword-of d) = cc in
     let r : t .words ≡ s .words = cc in
     let k = text-injective (keyword-of c) (keyword-of d) g in
-    let h = write-same (arguments c) (arguments d) (s .words) (s .written) (subst (Write (arguments d)) r (t .written)) in
+    let h = write-same (arguments c) (arguments d) (s .words) (s .written) (subst (Write-all (arguments d)) r (t .written)) in
     let x = command-is c in
     let y = command-is d in
     cc

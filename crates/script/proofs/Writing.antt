@@ -13,7 +13,7 @@ use Rattle.std.proofs.shelf.Decimals.{decimal-some, digits-decimal, value-decim
 use Rattle.std.proofs.shelf.Numerals.{Numerals, numerals-by-fold, tells-by-index}
 use Rattle.std.specs.Written.{decimal}
 use Rattle.script.specs.Text.{Digit, decimal-after, Numeral, spaced, followed}
-use Rattle.script.specs.Says.{Argument, number, end, text, keyword-of, arguments, Writes, Write, Says, Is-blank}
+use Rattle.script.specs.Says.{Argument, number, end, text, keyword-of, arguments, Writes, Write-all, Says, Is-blank}
 use Rattle.script.specs.Laws.{Within, word-of, line-of, Every-command}
 use Rattle.script.specs.declared.NextWord.the-variants.{Terminal, End}
 use Rattle.script.specs.declared.Command.{Command}
@@ -53,7 +53,7 @@ own = numerals-by-fold _ tells-by-index decimal-after (search needs)
 decimal-numeral : (v : ℕ) → v ≤ 18446744073709551615 → Numeral (decimal v) v
 decimal-numeral v h = record { some = decimal-some v (omega arith); digits = digits-decimal own v (omega arith); value = sym (value-decimal own v (omega arith)) }
 
-write-words : (more : List Argument) → limited more ≡ true → Within more → Write more (map word-of more)
+write-words : (more : List Argument) → limited more ≡ true → Within more → Write-all more (map word-of more)
 write-words [] l h = tt
 write-words (number limit v ∷ more) l h = let p = both (leb limit 18446744073709551615) (limited more) l in let q = leb-true limit 18446744073709551615 (p .0) in ((decimal-numeral v (omega arith), h .0), write-words more (p .1) (h .1))
 write-words (end ∷ more) l h = (refl, write-words more l h)
@@ -68,11 +68,11 @@ followed-length (number limit v ∷ more) l h =
     simp length-append (omega arith)
 followed-length (end ∷ more) l h = let r = followed-length more l h in omega arith
 
--- each command within its limits has a line that is short enough and says it
+-- each command within its limits is read from its line
 pub every-command : Every-command
 every-command c h =
     let p = both (limited (arguments c)) _ (arguments-small c) in
     let n = leb-true (length (arguments c)) 3 (p .1) in
     let t = text-length (keyword-of c) in
     let f = followed-length (arguments c) (p .0) h in
-    (simp length-append (omega arith), text-blank (keyword-of c) (followed (map word-of (arguments c))), record { words = map word-of (arguments c); joined = refl; written = write-words (arguments c) (p .0) h })
+    (text-blank (keyword-of c) (followed (map word-of (arguments c))), simp length-append (omega arith), record { words = map word-of (arguments c); joined = refl; written = write-words (arguments c) (p .0) h })

@@ -1,13 +1,13 @@
--- The laws of the text: a line says one command at most, and each command within its limits has a line.
+-- The laws of the text: a line says one command at most, and each command within its limits is read from a line.
 use mathlib.Core.Path.{_≡_}
 use mathlib.Core.List.{List, [], _∷_, map}
 use Prim.Native.Nat.{ℕ, _≤_}
 use lib.Chars.{codes}
-use lib.ListN.{length}
 use Rattle.std.specs.Written.{decimal}
 use Rattle.script.specs.Text.{spaced}
-use Rattle.script.specs.Says.{Argument, number, end, text, keyword-of, arguments, Says, Is-blank}
+use Rattle.script.specs.Says.{Argument, number, end, text, keyword-of, arguments, Says, Reads}
 use Rattle.script.specs.declared.Command.{Command}
+use Rattle.script.specs.declared.Line.the-variants as line
 
 -- no line says two commands
 abbrev pub One-command : Type 0
@@ -28,6 +28,6 @@ word-of end = codes "end"
 abbrev pub line-of : Command → List ℕ
 line-of c = spaced (text (keyword-of c) ∷ map word-of (arguments c))
 
--- each command within its limits has a line that is short enough and says it
+-- each command within its limits is read from its line
 abbrev pub Every-command : Type 0
-Every-command = (c : Command) → Within (arguments c) → (length (line-of c) ≤ 100) × (Is-blank (line-of c) → ⊥) × Says (line-of c) c
+Every-command = (c : Command) → Within (arguments c) → Reads (line-of c) (line.Command c)

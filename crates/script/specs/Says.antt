@@ -94,17 +94,17 @@ Writes (number limit v) word = Numeral word v × (v ≤ limit)
 Writes end word = word ≡ codes "end"
 
 -- words write arguments, one for each
-abbrev pub Write : List Argument → List (List ℕ) → Type 0
-Write [] [] = Unit {0}
-Write [] (w ∷ ws) = ⊥
-Write (a ∷ more) [] = ⊥
-Write (a ∷ more) (w ∷ ws) = Writes a w × Write more ws
+abbrev pub Write-all : List Argument → List (List ℕ) → Type 0
+Write-all [] [] = Unit {0}
+Write-all [] (w ∷ ws) = ⊥
+Write-all (a ∷ more) [] = ⊥
+Write-all (a ∷ more) (w ∷ ws) = Writes a w × Write-all more ws
 
 -- a line is the keyword of a command and a word for each of its arguments, with single spaces between
 pub record Says (bytes : List ℕ) (c : Command) : Type 0 where
   pub words : List (List ℕ)
   pub joined : bytes ≡ spaced (text (keyword-of c) ∷ words)
-  pub written : Write (arguments c) words
+  pub written : Write-all (arguments c) words
 
 -- a line is empty or begins with '#', however long it is
 abbrev pub Is-blank : List ℕ → Type 0

@@ -2,7 +2,7 @@
 use mathlib.Core.Path.{_≡_}
 use mathlib.Core.List.{List, [], _∷_}
 use Prim.Native.Nat.{ℕ}
-use Rattle.script.specs.Says.{Argument, number, byte, any, size, next-argument, Writes, Write}
+use Rattle.script.specs.Says.{Argument, number, byte, any, size, next-argument, Writes, Write-all}
 use Rattle.script.specs.declared.keyword.Keyword.{Keyword}
 use Rattle.script.specs.declared.keyword.Keyword.the-variants as key
 use Rattle.script.specs.declared.NextWord.{NextWord}
@@ -43,9 +43,9 @@ No-number limit ws = (v : ℕ) (rest : List (List ℕ)) → First-number limit v
 
 -- no arguments of a shape are written by the words
 abbrev pub Refused : Shape → List (List ℕ) → Type 0
-Refused none ws = Write [] ws → ⊥
-Refused (one l) ws = (a : ℕ) → Write (number l a ∷ []) ws → ⊥
-Refused (two l) ws = (a b : ℕ) → Write (number l a ∷ number l b ∷ []) ws → ⊥
-Refused (three l) ws = (a b c : ℕ) → Write (number l a ∷ number l b ∷ number l c ∷ []) ws → ⊥
-Refused next ws = (x : NextWord) → Write (next-argument x ∷ []) ws → ⊥
-Refused choice ws = (a : ℕ) (x : NextWord) → Write (byte a ∷ next-argument x ∷ []) ws → ⊥
+Refused none ws = Write-all [] ws → ⊥
+Refused (one l) ws = (a : ℕ) → Write-all (number l a ∷ []) ws → ⊥
+Refused (two l) ws = (a b : ℕ) → Write-all (number l a ∷ number l b ∷ []) ws → ⊥
+Refused (three l) ws = (a b c : ℕ) → Write-all (number l a ∷ number l b ∷ number l c ∷ []) ws → ⊥
+Refused next ws = (x : NextWord) → Write-all (next-argument x ∷ []) ws → ⊥
+Refused choice ws = (a : ℕ) (x : NextWord) → Write-all (byte a ∷ next-argument x ∷ []) ws → ⊥

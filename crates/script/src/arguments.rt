@@ -2,16 +2,16 @@
 
 ghost use Prim.Native.Nat.{ℕ};
 ghost use Rattle.script.specs.Cut.{left};
-ghost use Rattle.script.specs.Says.{Write, Writes, arguments, byte, keyword-of, next-argument, number};
+ghost use Rattle.script.specs.Says.{Write-all, Writes, arguments, byte, keyword-of, next-argument, number};
 ghost use Rattle.script.specs.Shapes.{First-number, No-number, Refused, choice, next, none, one, shape, three, two};
 ghost use Rattle.std.specs.Options.{Cases as BySome};
 ghost use mathlib.Core.List.{List, [], _∷_};
 ghost use mathlib.Core.Path.{_≡_};
-
+use crate::Command;
+use crate::NextWord;
 use crate::keyword::Keyword;
 use crate::number::number_up_to;
 use crate::words::Words;
-use crate::{Command, NextWord};
 
 /// The most cells, places of a stack and bytes of output that a script asks for.
 const MOST: u64 = 1_000_000;
@@ -29,7 +29,7 @@ fn next_number(words: &mut Words, limit: u64) -> Option<u64>
 
 /// The only argument, a number up to a limit.
 fn one_number(mut words: Words, limit: u64) -> Option<u64>
-    ensures { λ r. ⌜ BySome r (Refused (one limit) (left (words .entry))) (λ a. Write (number limit a ∷ []) (left (words .entry))) ⌝ }
+    ensures { λ r. ⌜ BySome r (Refused (one limit) (left (words .entry))) (λ a. Write-all (number limit a ∷ []) (left (words .entry))) ⌝ }
 {
     let number = next_number(&mut words, limit)?;
     if words.ended() { Some(number) } else { None }
@@ -37,7 +37,7 @@ fn one_number(mut words: Words, limit: u64) -> Option<u64>
 
 /// The two arguments, numbers up to a limit.
 fn two_numbers(mut words: Words, limit: u64) -> Option<(u64, u64)>
-    ensures { λ r. ⌜ BySome r (Refused (two limit) (left (words .entry))) (λ p. Write (number limit (p .0) ∷ number limit (p .1) ∷ []) (left (words .entry))) ⌝ }
+    ensures { λ r. ⌜ BySome r (Refused (two limit) (left (words .entry))) (λ p. Write-all (number limit (p .0) ∷ number limit (p .1) ∷ []) (left (words .entry))) ⌝ }
 {
     let first = next_number(&mut words, limit)?;
     let second = one_number(words, limit)?;
@@ -46,7 +46,7 @@ fn two_numbers(mut words: Words, limit: u64) -> Option<(u64, u64)>
 
 /// The three arguments, numbers up to a limit.
 fn three_numbers(mut words: Words, limit: u64) -> Option<(u64, u64, u64)>
-    ensures { λ r. ⌜ BySome r (Refused (three limit) (left (words .entry))) (λ p. Write (number limit (p .0) ∷ number limit (p .1) ∷ number limit (p .2) ∷ []) (left (words .entry))) ⌝ }
+    ensures { λ r. ⌜ BySome r (Refused (three limit) (left (words .entry))) (λ p. Write-all (number limit (p .0) ∷ number limit (p .1) ∷ number limit (p .2) ∷ []) (left (words .entry))) ⌝ }
 {
     let first = next_number(&mut words, limit)?;
     let (second, third) = two_numbers(words, limit)?;
@@ -55,7 +55,7 @@ fn three_numbers(mut words: Words, limit: u64) -> Option<(u64, u64, u64)>
 
 /// The only argument, a number of one byte.
 fn one_byte(words: Words) -> Option<u8>
-    ensures { λ r. ⌜ BySome r (Refused (one 255) (left (words .entry))) (λ a. Write (byte a ∷ []) (left (words .entry))) ⌝ }
+    ensures { λ r. ⌜ BySome r (Refused (one 255) (left (words .entry))) (λ a. Write-all (byte a ∷ []) (left (words .entry))) ⌝ }
 {
     let number = one_number(words, BYTE)?;
     Some(number as u8)
@@ -74,7 +74,7 @@ fn next_of(word: &[u8]) -> Option<NextWord>
 
 /// The only argument, what comes next.
 fn one_next(mut words: Words) -> Option<NextWord>
-    ensures { λ r. ⌜ BySome r (Refused next (left (words .entry))) (λ x. Write (next-argument x ∷ []) (left (words .entry))) ⌝ }
+    ensures { λ r. ⌜ BySome r (Refused next (left (words .entry))) (λ x. Write-all (next-argument x ∷ []) (left (words .entry))) ⌝ }
 {
     let word = words.next()?;
     let next = next_of(word)?;
@@ -83,7 +83,7 @@ fn one_next(mut words: Words) -> Option<NextWord>
 
 /// The arguments of a choice.
 fn choice_of(mut words: Words) -> Option<(u8, NextWord)>
-    ensures { λ r. ⌜ BySome r (Refused choice (left (words .entry))) (λ p. Write (byte (p .0) ∷ next-argument (p .1) ∷ []) (left (words .entry))) ⌝ }
+    ensures { λ r. ⌜ BySome r (Refused choice (left (words .entry))) (λ p. Write-all (byte (p .0) ∷ next-argument (p .1) ∷ []) (left (words .entry))) ⌝ }
 {
     let nonterminal = next_number(&mut words, BYTE)?;
     let next = one_next(words)?;
@@ -92,14 +92,14 @@ fn choice_of(mut words: Words) -> Option<(u8, NextWord)>
 
 /// A command without arguments.
 fn alone(words: Words, command: Command) -> Option<Command>
-    ensures { λ r. ⌜ BySome r (Refused none (left (words .entry))) (λ c. (c ≡ command) × Write [] (left (words .entry))) ⌝ }
+    ensures { λ r. ⌜ BySome r (Refused none (left (words .entry))) (λ c. (c ≡ command) × Write-all [] (left (words .entry))) ⌝ }
 {
     if words.ended() { Some(command) } else { None }
 }
 
 /// The command of a keyword with the words after it.
 pub fn read(keyword: Keyword, words: Words) -> Option<Command>
-    ensures { λ r. ⌜ BySome r (Refused (shape keyword) (left (words .entry))) (λ c. (keyword-of c ≡ keyword) × Write (arguments c) (left (words .entry))) ⌝ }
+    ensures { λ r. ⌜ BySome r (Refused (shape keyword) (left (words .entry))) (λ c. (keyword-of c ≡ keyword) × Write-all (arguments c) (left (words .entry))) ⌝ }
 {
     match keyword {
         Keyword::Brackets => {
@@ -125,11 +125,17 @@ pub fn read(keyword: Keyword, words: Words) -> Option<Command>
         }
         Keyword::Memory => {
             let (cells, stack, output) = three_numbers(words, MOST)?;
-            Some(Command::Memory { cells: cells as usize, stack: stack as usize, output: output as usize })
+            Some(Command::Memory {
+                cells: cells as usize,
+                stack: stack as usize,
+                output: output as usize,
+            })
         }
         Keyword::Bound => {
             let bound = one_number(words, u64::MAX)?;
-            Some(Command::Bound { bound: bound as usize })
+            Some(Command::Bound {
+                bound: bound as usize,
+            })
         }
         Keyword::Count => alone(words, Command::Count),
         Keyword::Check => alone(words, Command::Check),

@@ -43,7 +43,11 @@ impl<'a> Words<'a> {
     {
         let text = self.rest?;
         let end = first_space(text);
-        self.rest = if end < text.len() { Some(&text[end + 1..]) } else { None };
+        self.rest = if end < text.len() {
+            Some(&text[end + 1..])
+        } else {
+            None
+        };
         Some(&text[..end])
     }
 

@@ -9,9 +9,10 @@ returns-in-Break-value c =
     rw (c .from-residual .ensures) (too-large (c .args .word .now) (c .loop-byte .byte-index) (c .loop-byte .value) (c .loop-byte-test .taken) (c .loop-byte .inv .1) (c .in-Break-value .ensures tt))
 
 pub loop-byte-again : need.loop-byte-again
-loop-byte-again c =
-    (below-more _ _ (c .loop-byte .inv .0) (c .in-Continue-value .ensures tt .0),
-     again (c .args .word .now) (c .loop-byte .byte-index) (c .loop-byte .value) _ (c .loop-byte-test .taken) (c .loop-byte .inv .1) (c .in-Continue-value .ensures tt .1))
+loop-byte-again c = (
+  below-more _ _ (c .loop-byte .inv .0) (c .in-Continue-value .ensures tt .0),
+  again (c .args .word .now) (c .loop-byte .byte-index) (c .loop-byte .value) _ (c .loop-byte-test .taken) (c .loop-byte .inv .1) (c .in-Continue-value .ensures tt .1),
+)
 
 pub returns : need.returns
 returns c =

@@ -2,11 +2,11 @@
 use mathlib.Core.Path.{_≡_, refl, sym, _∙_, ap, subst}
 use mathlib.Core.Bool.{Bool, true, false, cond, _&&_, not}
 use mathlib.Core.List.{List, [], _∷_, _++_}
-use Prim.Native.Nat.{ℕ, zero, suc, _+_, _<_, _≤_, zero-le, suc-le-suc}
+use Prim.Native.Nat.{ℕ, zero, suc, _+_, _<_, _≤_, suc-le-suc}
 use native.Mathlib.Omega.{arith}
 use lib.Dec.{eqb}
 use lib.ListN.{length, getD, take, drop}
-use borrow.Author.Tests.{eq-eqb, eqb-true, eqb-false}
+use borrow.Author.Tests.{eqb-true}
 use Rattle.script.specs.Text.{followed, spaced}
 use denote.Ref.{RefT}
 use Rattle.std.proofs.shelf.Lists.{take-append-drop, drop-more, append-nil, take-all}
@@ -55,14 +55,14 @@ abbrev pub Plain : List (List ℕ) → Type 0
 Plain [] = Unit {0}
 Plain (w ∷ ws) = (plain w ≡ true) × Plain ws
 
-cut-step : (b : ℕ) (bs rest vs : List ℕ) (ws : List (List ℕ)) → (q : Bool) → (not q && plain bs) ≡ true → (plain bs ≡ true → cut (bs ++ rest) ≡ bs ∷ ws) → cond q ([] ∷ cut (bs ++ rest)) (onto b (cut (bs ++ rest))) ≡ (b ∷ bs) ∷ ws
-cut-step b bs rest vs ws true p h = let z : false ≡ true = p in let n : _≡_ {A = ℕ} 0 1 = cc in absurd (omega arith)
-cut-step b bs rest vs ws false p h = ap (onto b) (h p)
+cut-step : (b : ℕ) (bs rest : List ℕ) (ws : List (List ℕ)) → (q : Bool) → (not q && plain bs) ≡ true → (plain bs ≡ true → cut (bs ++ rest) ≡ bs ∷ ws) → cond q ([] ∷ cut (bs ++ rest)) (onto b (cut (bs ++ rest))) ≡ (b ∷ bs) ∷ ws
+cut-step b bs rest ws true p h = let z : false ≡ true = p in let n : _≡_ {A = ℕ} 0 1 = cc in absurd (omega arith)
+cut-step b bs rest ws false p h = ap (onto b) (h p)
 
 -- a word without spaces, in front of a text whose first word is empty
 cut-front : (w rest : List ℕ) (ws : List (List ℕ)) → plain w ≡ true → cut rest ≡ [] ∷ ws → cut (w ++ rest) ≡ w ∷ ws
 cut-front [] rest ws p h = h
-cut-front (b ∷ bs) rest ws p h = cut-step b bs rest [] ws (eqb b 32) p (λ q. cut-front bs rest ws q h)
+cut-front (b ∷ bs) rest ws p h = cut-step b bs rest ws (eqb b 32) p (λ q. cut-front bs rest ws q h)
 
 cut-followed : (ws : List (List ℕ)) → Plain ws → cut (followed ws) ≡ [] ∷ ws
 cut-followed [] p = refl

@@ -1,5 +1,5 @@
 -- Reading arguments from the words of a line.
-use mathlib.Core.Path.{_≡_, refl, sym, _∙_, ap, subst}
+use mathlib.Core.Path.{_≡_, refl, subst}
 use mathlib.Core.List.{List, [], _∷_}
 use Prim.Native.Nat.{ℕ, _≤_}
 use Rattle.std.specs.Options.{Cases}
@@ -47,19 +47,6 @@ rest-three limit v ws rest f h a b c = rest-refused ws (f .0) rest (f .1) (numbe
 
 pub rest-choice : (v : ℕ) (ws rest : List (List ℕ)) → First-number 255 v ws rest → Refused next rest → Refused choice ws
 rest-choice v ws rest f h a x = rest-refused ws (f .0) rest (f .1) (byte a) (next-argument x ∷ []) (h x)
-
--- the only word
-pub only-word : (a : Argument) (ws : List (List ℕ)) (w : List ℕ) → ws ≡ w ∷ [] → Writes a w → Write-all (a ∷ []) ws
-only-word a ws w e h = subst (Write-all (a ∷ [])) (sym e) (h, tt)
-
--- a word in front of others
-pub first-word : (a : Argument) (more : List Argument) (ws : List (List ℕ)) (w : List ℕ) (rest : List (List ℕ)) → ws ≡ w ∷ rest → Writes a w → Write-all more rest → Write-all (a ∷ more) ws
-first-word a more ws w rest e h m = subst (Write-all (a ∷ more)) (sym e) (h, m)
-
--- a number that is written is at most its limit
-pub write-limit : (limit a : ℕ) (more : List Argument) (ws : List (List ℕ)) → Write-all (number limit a ∷ more) ws → a ≤ limit
-write-limit limit a more [] h = absurd h
-write-limit limit a more (w ∷ ws) h = h .0 .1
 
 -- a word that is neither `end` nor a number of one byte
 pub no-next : (w : List ℕ) → (w ≡ codes "end" → ⊥) → ((v : ℕ) → Numeral w v → v ≤ 255 → ⊥) → (x : NextWord) → Writes (next-argument x) w → ⊥

@@ -1,18 +1,18 @@
 -- A line says one command at most, and read words give the command that it says.
 use mathlib.Core.Path.{_≡_, refl, sym, _∙_, ap, subst}
 use mathlib.Core.Bool.{true}
-use mathlib.Core.List.{List, [], _∷_, _++_, map}
-use Prim.Native.Nat.{ℕ, zero, suc, pred, _<_, _≤_}
+use mathlib.Core.List.{List, [], _∷_, map}
+use Prim.Native.Nat.{ℕ, zero, suc, pred, _<_}
 use native.Mathlib.Omega.{arith}
 use lib.Chars.{codes}
-use lib.ListN.{length, getD, take}
+use lib.ListN.{length, getD}
 use Rattle.std.proofs.shelf.Lists.{take-all}
 use Rattle.std.specs.Options.{Cases}
 use Rattle.std.specs.declared.option.Option.{Option}
 use Rattle.std.specs.declared.option.Option.the-variants.{Some, None}
-use Rattle.script.specs.Text.{Numeral, spaced, decimal-after}
+use Rattle.script.specs.Text.{Numeral, spaced}
 use Rattle.script.specs.Cut.{cut}
-use Rattle.script.specs.Says.{Argument, number, end, text, keyword-of, arguments, Writes, Write-all, Says, Is-blank, Reads}
+use Rattle.script.specs.Says.{Argument, number, end, text, keyword-of, arguments, Writes, Write-all, Says, Reads}
 use Rattle.script.specs.Shapes.{Refused, shape}
 use Rattle.script.specs.Laws.{One-command}
 use Rattle.script.specs.declared.keyword.Keyword.{Keyword}

@@ -1,20 +1,19 @@
 -- Each command within its limits has a line.
-use mathlib.Core.Path.{_≡_, refl, sym, _∙_, ap, subst}
-use mathlib.Core.Bool.{Bool, true, false, _&&_}
-use mathlib.Core.List.{List, [], _∷_, _++_, map}
-use Prim.Native.Nat.{ℕ, suc, _+_, _*_, _<_, _≤_}
+use mathlib.Core.Path.{_≡_, refl, sym}
+use mathlib.Core.Bool.{Bool, true, _&&_}
+use mathlib.Core.List.{List, [], _∷_, map}
+use Prim.Native.Nat.{ℕ, _*_, _<_, _≤_}
 use native.Mathlib.Omega.{arith}
 use borrow.Author.Needs.{needs}
 use borrow.Author.Tests.{leb-true}
-use lib.Chars.{codes}
 use lib.Dec.{leb}
 use lib.ListN.{length, getD, length-append}
 use Rattle.std.proofs.shelf.Decimals.{decimal-some, digits-decimal, value-decimal, length-decimal-le}
 use Rattle.std.proofs.shelf.Numerals.{Numerals, numerals-by-fold, tells-by-index}
 use Rattle.std.specs.Written.{decimal}
-use Rattle.script.specs.Text.{Digit, decimal-after, Numeral, spaced, followed}
-use Rattle.script.specs.Says.{Argument, number, end, text, keyword-of, arguments, Writes, Write-all, Says, Is-blank}
-use Rattle.script.specs.Laws.{Within, word-of, line-of, Every-command}
+use Rattle.script.specs.Text.{Digit, decimal-after, Numeral, followed}
+use Rattle.script.specs.Says.{Argument, number, end, keyword-of, arguments, Write-all}
+use Rattle.script.specs.Laws.{Within, word-of, Every-command}
 use Rattle.script.specs.declared.NextWord.the-variants.{Terminal, End}
 use Rattle.script.specs.declared.Command.{Command}
 use Rattle.script.specs.declared.Command.the-variants.{Brackets, Neutral, Restrict, Start, Choice, Level, Memory, Bound, Count, Check, Table, Cell, Flip, Poke}

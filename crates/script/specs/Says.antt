@@ -1,7 +1,6 @@
 -- Which command a line says, and how a line is read.
 use mathlib.Core.Path.{_≡_}
 use mathlib.Core.List.{List, [], _∷_}
-use mathlib.Core.Logic.{_⊎_}
 use Prim.Native.Nat.{ℕ, _≤_}
 use lib.Chars.{codes}
 use lib.ListN.{length}
@@ -54,17 +53,29 @@ pub data Argument : Type 0 where
   number : ℕ → ℕ → Argument
   end : Argument
 
+-- the largest number of one byte
+abbrev pub max-byte : ℕ
+max-byte = 255
+
+-- the largest number of 64 bits
+abbrev pub max-word : ℕ
+max-word = 18446744073709551615
+
+-- the most cells, places of a stack or bytes of output that a script asks for
+abbrev pub max-size : ℕ
+max-size = 1000000
+
 -- a number of one byte
 abbrev pub byte : ℕ → Argument
-byte v = number 255 v
+byte v = number max-byte v
 
 -- a number of 64 bits
 abbrev pub any : ℕ → Argument
-any v = number 18446744073709551615 v
+any v = number max-word v
 
 -- a number of cells, of places of a stack or of bytes of output
 abbrev pub size : ℕ → Argument
-size v = number 1000000 v
+size v = number max-size v
 
 -- the second argument of a choice
 abbrev pub next-argument : NextWord → Argument

@@ -2,7 +2,7 @@
 use mathlib.Core.Path.{_≡_}
 use mathlib.Core.List.{List, [], _∷_}
 use Prim.Native.Nat.{ℕ}
-use Rattle.script.specs.Says.{Argument, number, byte, any, size, next-argument, Writes, Write-all}
+use Rattle.script.specs.Says.{number, byte, max-byte, max-word, max-size, next-argument, Writes, Write-all}
 use Rattle.script.specs.declared.keyword.Keyword.{Keyword}
 use Rattle.script.specs.declared.keyword.Keyword.the-variants as key
 use Rattle.script.specs.declared.NextWord.{NextWord}
@@ -18,20 +18,20 @@ pub data Shape : Type 0 where
 
 -- the shape of a keyword's arguments
 abbrev pub shape : Keyword → Shape
-shape key.Brackets = one 255
+shape key.Brackets = one max-byte
 shape key.Neutral = none
-shape key.Restrict = one 18446744073709551615
-shape key.Start = one 255
+shape key.Restrict = one max-word
+shape key.Start = one max-byte
 shape key.Choice = choice
-shape key.Level = one 255
-shape key.Memory = three 1000000
-shape key.Bound = one 18446744073709551615
+shape key.Level = one max-byte
+shape key.Memory = three max-size
+shape key.Bound = one max-word
 shape key.Count = none
 shape key.Check = none
 shape key.Table = none
-shape key.Cell = one 18446744073709551615
-shape key.Flip = two 18446744073709551615
-shape key.Poke = two 18446744073709551615
+shape key.Cell = one max-word
+shape key.Flip = two max-word
+shape key.Poke = two max-word
 
 -- the first of the words writes the number v up to a limit, and the others are left
 abbrev pub First-number : ℕ → ℕ → List (List ℕ) → List (List ℕ) → Type 0

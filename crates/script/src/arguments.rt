@@ -1,11 +1,10 @@
 //! The arguments of commands.
 
-ghost use Prim.Native.Nat.{ℕ};
 ghost use Rattle.script.specs.Cut.{left};
-ghost use Rattle.script.specs.Says.{Write-all, Writes, arguments, byte, keyword-of, next-argument, number};
+ghost use Rattle.script.specs.Says.{Write-all, Writes, arguments, byte, keyword-of, max-byte, next-argument, number};
 ghost use Rattle.script.specs.Shapes.{First-number, No-number, Refused, choice, next, none, one, shape, three, two};
 ghost use Rattle.std.specs.Options.{Cases as BySome};
-ghost use mathlib.Core.List.{List, [], _∷_};
+ghost use mathlib.Core.List.{[], _∷_};
 ghost use mathlib.Core.Path.{_≡_};
 use crate::Command;
 use crate::NextWord;
@@ -55,7 +54,7 @@ fn three_numbers(mut words: Words, limit: u64) -> Option<(u64, u64, u64)>
 
 /// The only argument, a number of one byte.
 fn one_byte(words: Words) -> Option<u8>
-    ensures { λ r. ⌜ BySome r (Refused (one 255) (left (words .entry))) (λ a. Write-all (byte a ∷ []) (left (words .entry))) ⌝ }
+    ensures { λ r. ⌜ BySome r (Refused (one max-byte) (left (words .entry))) (λ a. Write-all (byte a ∷ []) (left (words .entry))) ⌝ }
 {
     let number = one_number(words, BYTE)?;
     Some(number as u8)

@@ -24,7 +24,6 @@
 //!
 //! A line that is not blank and says no command, or has more than 1,000,000 bytes, is unreadable.
 
-ghost use Prim.Native.Nat.{ℕ, _≤_};
 ghost use Rattle.script.specs.Laws.{Every-command, One-command};
 ghost use Rattle.script.specs.Says.{Is-blank, Reads, Says};
 ghost use Rattle.std.specs.Options.{Cases as BySome};

@@ -3,7 +3,6 @@
 ghost use Prim.Native.Nat.{ℕ, _<_, _≤_};
 ghost use Rattle.script.specs.Cut.{cut, left};
 ghost use Rattle.std.specs.Options.{Cases as BySome};
-ghost use lib.Dec.{T};
 ghost use lib.ListN.{getD, length};
 ghost use mathlib.Core.List.{[], _∷_};
 ghost use mathlib.Core.Path.{_≡_};

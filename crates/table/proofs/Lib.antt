@@ -1,0 +1,9 @@
+pub mod Sides
+pub mod Rows
+pub mod Writes
+pub mod Terms
+pub mod RowTerms
+pub mod Fills
+pub mod Due
+pub mod Front
+pub mod Solution

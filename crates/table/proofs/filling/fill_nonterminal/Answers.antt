@@ -1,0 +1,53 @@
+use mathlib.Core.Path.{_≡_, refl, sym, ap, subst, _∙_}
+use Prim.Native.Nat.{ℕ, _+_, _≤_, _<_}
+use native.Mathlib.Omega.{arith}
+use borrow.Author.Count.{below-more}
+use Rattle.grammar.proofs.Derived.{ll1-of}
+use Rattle.table.specs.Filling.{Front-right-of}
+use Rattle.table.specs.declared.Row.the-variants.{Nonterminal, Suffix}
+use Rattle.table.proofs.Fills.{keeps-all, keeps-on, keeps-room, keeps-below, keeps-front, done-more}
+use Rattle.table.proofs.Due.{nonterminal-due}
+use Rattle.table.proofs.filling.fill_nonterminal.Needs as need
+
+pub fill-front-requires : need.fill-front-requires
+fill-front-requires g c κs =
+    let k = c .loop-s .inv .0 in
+    record {
+      laid = c .pre .laid;
+      room = keeps-room k (c .pre .room);
+      short = c .pre .short;
+      inside = omega arith;
+      below = keeps-below k (omega arith) (c .pre .below);
+      corners = λ B l e. k .still (Nonterminal B) (c .args .m) l (c .pre .short) (c .pre .corners B l e);
+    }
+
+pub returns-then-not-fill-front : need.returns-then-not-fill-front
+returns-then-not-fill-front g c = let got = c .if-not-fill-front .ensures tt in record { keeps = keeps-on (c .loop-s .inv .0) (got .keeps); done = got .done }
+
+pub loop-s-again : need.loop-s-again
+loop-s-again g c =
+    let G = g .G·Grammar .meaning (c .args .g .now) in
+    let got = c .if-not-fill-front .ensures tt in
+    (keeps-on (c .loop-s .inv .0) (got .keeps),
+     below-more (Front-right-of G (c .args .layout .now .bound) (c .fill-front .last .cells) (c .args .a) (c .args .m)) (c .loop-s .s)
+       (λ q l. keeps-front (got .keeps) (c .pre .short) (omega arith) (c .loop-s .inv .1 q l))
+       (got .done))
+
+pub fill-requires : need.fill-requires
+fill-requires g c κs =
+    let f = g .G·Grammar·met .shows (c .args .g .now) in
+    record {
+      laid = c .pre .laid;
+      room = keeps-room (c .loop-s .inv .0) (c .pre .room);
+      short = c .pre .short;
+      stands = record { is-row = c .pre .inside; is = refl };
+      due = nonterminal-due (ll1-of f) (c .args .a) (c .args .m) (λ q l. c .loop-s .inv .1 q (omega arith));
+    }
+
+pub returns : need.returns
+returns g c =
+    let end = c .fill .ensures in
+    record {
+      keeps = keeps-on (c .loop-s .inv .0) (end .keeps);
+      done = done-more (c .fill .result) (c .pre .short) (end .keeps) (λ q l. c .loop-s .inv .1 q (omega arith)) (end .done);
+    }

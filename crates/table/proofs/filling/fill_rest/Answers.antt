@@ -1,0 +1,43 @@
+use mathlib.Core.Path.{_≡_, refl, sym, ap, subst, _∙_}
+use Prim.Native.Nat.{ℕ, _+_, _≤_, _<_}
+use native.Mathlib.Omega.{arith}
+use lib.ListN.{length}
+use Rattle.theory.specs.Count.{right-of}
+use Rattle.table.proofs.Front.{leaders-zero, done-leaders, done-firsts, end-last, rest-done}
+use Rattle.table.proofs.filling.fill_rest.Needs as need
+
+pub front-end-end-requires : need.front-end-end-requires
+front-end-end-requires g c κs =
+    let f = g .G·Grammar·met .shows (c .args .g .now) in
+    record {
+      room = c .pre .room;
+      inside = c .pre .inside;
+      some = omega arith;
+      leaders = leaders-zero (f .limits) (c .pre .below) (c .args .s) (done-leaders (f .limits) (c .pre .fronts) (c .args .s));
+    }
+
+pub fill-suffixes-requires : need.fill-suffixes-requires
+fill-suffixes-requires g c κs =
+    let G = g .G·Grammar .meaning (c .args .g .now) in
+    let f = g .G·Grammar·met .shows (c .args .g .now) in
+    let w = right-of (G .slot (c .args .s)) in
+    record {
+      laid = c .pre .laid;
+      room = c .pre .room;
+      short = c .pre .short;
+      inside = c .pre .inside;
+      far = omega (arith, c .length-n .ensures);
+      below = c .pre .below;
+      firsts = done-firsts (f .limits) (c .pre .fronts) (c .args .s) (c .length-n .result);
+      last = λ p e. let h : length w ≤ p + 1 = omega (arith, c .length-n .ensures) in end-last G w p h;
+    }
+
+pub returns : need.returns
+returns g c =
+    let f = g .G·Grammar·met .shows (c .args .g .now) in
+    let end = c .front-end-end .ensures in
+    record {
+      keeps = c .fill-suffixes .ensures .keeps;
+      done = rest-done (f .limits) (c .fill-suffixes .result) (c .args .s) (c .front-end-end .result) (c .length-n .result) (c .pre .inside) (c .pre .short) (c .pre .fronts)
+          (c .fill-suffixes .ensures .keeps) (end .far) (end .before) (c .length-n .ensures) (c .fill-suffixes .ensures .done);
+    }

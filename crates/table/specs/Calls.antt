@@ -1,0 +1,69 @@
+-- What the calls on a table answer, and what they leave in the cells. Assumes nothing.
+use mathlib.Core.Path.{_≡_}
+use mathlib.Core.Bool.{Bool, true, false}
+use mathlib.Core.List.{List}
+use Prim.Native.Nat.{ℕ, _+_, _^_, _≤_, _<_}
+use lib.ListN.{length, getD}
+use Rattle.fault.specs.declared.Fault.{Fault}
+use Rattle.fault.specs.declared.Fault.the-variants.{TooLong, ShortMemory, CountTooLarge, BrokenCell}
+use Rattle.fault.specs.declared.Memory.the-variants.{Cells}
+use Rattle.theory.specs.Grammar.{CFG}
+use Rattle.table.specs.Rows.{Row-of, needed, Room}
+use Rattle.table.specs.Layouts.{Laid}
+use Rattle.table.specs.declared.layout.Layout.{Layout}
+use Rattle.table.specs.Equations.{Lowest-broken}
+use Rattle.table.specs.Counts.{Sound-table, First-passes, count-of}
+use Rattle.table.specs.Filling.{Right-below, Over}
+use Rattle.table.specs.declared.Row.{Row}
+
+-- the cells from n on are as they stood
+abbrev pub Same-past : ℕ → List ℕ → List ℕ → Type 0
+Same-past n before after = (length after ≡ length before) × ((k : ℕ) → n ≤ k → getD after k 0 ≡ getD before k 0)
+
+-- the first n cells are 0, and the others are as they stood
+abbrev pub Zeroed : ℕ → List ℕ → List ℕ → Type 0
+Zeroed n before after = ((k : ℕ) → k < n → getD after k 0 ≡ 0) × Same-past n before after
+
+-- what a guard leaves: all as it is once accepted, else the first n cells 0
+abbrev pub Released : Bool → ℕ → List ℕ → List ℕ → Type 0
+Released true n before after = after ≡ before
+Released false n before after = Zeroed n before after
+
+-- why a table of n cells for the bound L cannot be worked with: L is above 48, or there are too few cells. No other fault
+pub data No-room (G : CFG) (L n : ℕ) : Fault → Type 0 where
+  too-long : 48 < L → No-room G L n (TooLong L)
+  short-cells : L ≤ 48 → n < needed G L → No-room G L n (ShortMemory Cells)
+
+-- the needed cells hold their counts, and the others are as they stood
+pub record Filled (G : CFG) (L : ℕ) (before after : List ℕ) : Type 0 where
+  pub right : Right-below G L after (L + 1)
+  pub rest : Same-past (needed G L) before after
+
+-- a count passes the limit first at m, and the needed cells are 0
+pub record Stopped (G : CFG) (L : ℕ) (before after : List ℕ) (m : ℕ) : Type 0 where
+  pub short : m ≤ L
+  pub over : Over G m
+  pub before-fits : (ρ : Row) (k : ℕ) → Row-of G ρ → k < m → count-of G ρ k < 2 ^ 63
+  pub zeroed : Zeroed (needed G L) before after
+
+-- the layout of a table that has room
+pub record Has-room (G : CFG) (L n : ℕ) (layout : Layout) : Type 0 where
+  pub small : L ≤ 48
+  pub enough : needed G L ≤ n
+  pub laid : Laid G L layout
+
+-- how counting ends well: each needed cell is the count that it stands for, and all others are as they stood
+pub record Counted (G : CFG) (L : ℕ) (before after : List ℕ) : Type 0 where
+  pub room : Room G L before
+  pub sound : Sound-table G L after
+  pub rest : Same-past (needed G L) before after
+
+-- how counting is refused: there is no room, and all cells stand; or a count passes 2^63 - 1, and the needed cells are 0. No other fault
+pub data Count-refused (G : CFG) (L : ℕ) (before after : List ℕ) : Fault → Type 0 where
+  no-room : {f : Fault} → No-room G L (length before) f → after ≡ before → Count-refused G L before after f
+  too-large : (m : ℕ) → Room G L before → First-passes G L m → Zeroed (needed G L) before after → Count-refused G L before after (CountTooLarge m)
+
+-- how the check refuses a table: there is no room, or a needed cell breaks its equation, and the lowest such is named. No other fault
+pub data Check-refused (G : CFG) (L : ℕ) (cells : List ℕ) : Fault → Type 0 where
+  no-room : {f : Fault} → No-room G L (length cells) f → Check-refused G L cells f
+  broken : (i : ℕ) → Room G L cells → Lowest-broken G L cells i → Check-refused G L cells (BrokenCell i)

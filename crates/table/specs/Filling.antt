@@ -1,0 +1,86 @@
+-- A table in the making: which cells hold their count already. Assumes nothing.
+use mathlib.Core.Path.{_≡_}
+use mathlib.Core.Bool.{Bool, true, false}
+use mathlib.Core.List.{List, [], _∷_}
+use mathlib.Core.Logic.{_⊎_}
+use Prim.Native.Nat.{ℕ, _+_, _^_, _≤_, _<_}
+use lib.Dec.{eqb}
+use lib.ListN.{length, getD, drop, take}
+use Rattle.std.specs.declared.option.Option.{Option}
+use Rattle.std.specs.declared.option.Option.the-variants.{None, Some}
+use Rattle.theory.specs.Grammar.{Symbol, nonterminal, CFG}
+use Rattle.theory.specs.Sets.{Nullable, LeftCorner}
+use Rattle.theory.specs.Count.{left-of, right-of, symbol-count, count}
+use Rattle.table.specs.Rows.{Row-of, row-number, needed, cell-at}
+use Rattle.table.specs.Counts.{count-of}
+use Rattle.table.specs.declared.Row.{Row}
+use Rattle.table.specs.declared.Row.the-variants.{Nonterminal, Suffix}
+
+-- what a sum of n is answered by: n itself below 2^63, and none from there on
+abbrev pub Within : ℕ → Option ℕ → Type 0
+Within n (Some s) = (s ≡ n) × (n < 2 ^ 63)
+Within n None = 2 ^ 63 ≤ n
+
+-- a cell agrees with a sum that it equals
+abbrev pub agrees-with : Option ℕ → ℕ → Bool
+agrees-with (Some s) held = eqb s held
+agrees-with None held = false
+
+-- the cell of ρ at m holds its count
+pub record Right (G : CFG) (L : ℕ) (cells : List ℕ) (ρ : Row) (m : ℕ) : Type 0 where
+  pub is : cell-at L cells (row-number G ρ) m ≡ count-of G ρ m
+  pub low : count-of G ρ m < 2 ^ 63
+
+-- all rows are right below m
+abbrev pub Right-below : CFG → ℕ → List ℕ → ℕ → Type 0
+Right-below G L cells m = (ρ : Row) (k : ℕ) → Row-of G ρ → k < m → Right G L cells ρ k
+
+-- what was right before still is, and what the table does not need is as it was
+pub record Keeps (G : CFG) (L : ℕ) (before after : List ℕ) : Type 0 where
+  pub long : length after ≡ length before
+  pub still : (ρ : Row) (m : ℕ) → Row-of G ρ → m ≤ L → Right G L before ρ m → Right G L after ρ m
+  pub past : (k : ℕ) → needed G L ≤ k → getD after k 0 ≡ getD before k 0
+
+-- the count of some row at m passes the limit
+pub record Over (G : CFG) (m : ℕ) : Type 0 where
+  pub row : Row
+  pub is-row : Row-of G row
+  pub over : 2 ^ 63 ≤ count-of G row m
+
+-- P where the flag says so, else a count at m passes the limit
+abbrev pub Unless-over : Bool → CFG → ℕ → Type 0 → Type 0
+Unless-over true G m P = P
+Unless-over false G m P = Over G m
+
+-- the nonterminals that stand in Ys before p are right at m
+abbrev pub Firsts-right : CFG → ℕ → List ℕ → List Symbol → ℕ → ℕ → Type 0
+Firsts-right G L cells Ys p m = (q B : ℕ) (Xs : List Symbol) → q < p → drop q Ys ≡ nonterminal B ∷ Xs → Right G L cells (Nonterminal B) m
+
+-- the suffix from p on does not need the rest behind its first symbol at its own length: there is none, or the symbol is not nullable
+abbrev pub Needs-no-rest : CFG → List Symbol → ℕ → Type 0
+Needs-no-rest G Ys p = (X : Symbol) (Xs : List Symbol) → drop p Ys ≡ X ∷ Xs → (Xs ≡ []) ⊎ (symbol-count (count G) X 0 ≡ 0)
+
+-- the left corners of A are right at m
+abbrev pub Corners-right : CFG → ℕ → List ℕ → ℕ → ℕ → Type 0
+Corners-right G L cells A m = (B : ℕ) → B < G .nonterminals → LeftCorner G A B → Right G L cells (Nonterminal B) m
+
+-- the nonterminals of Ys behind what is nullable are right at m
+abbrev pub Leaders-right : CFG → ℕ → List ℕ → List Symbol → ℕ → Type 0
+Leaders-right G L cells Ys m = (p B : ℕ) (Xs : List Symbol) → Nullable G (take p Ys) → drop p Ys ≡ nonterminal B ∷ Xs → Right G L cells (Nonterminal B) m
+
+-- the suffixes of slot s behind what is nullable are right at m
+abbrev pub Front-right : CFG → ℕ → List ℕ → ℕ → ℕ → Type 0
+Front-right G L cells m s = (p : ℕ) → p < length (right-of (G .slot s)) → Nullable G (take p (right-of (G .slot s))) → Right G L cells (Suffix s p) m
+
+-- so are those of slot s if it is one of A's
+abbrev pub Front-right-of : CFG → ℕ → List ℕ → ℕ → ℕ → ℕ → Type 0
+Front-right-of G L cells A m s = left-of (G .slot s) ≡ Some A → Front-right G L cells m s
+
+-- A is right at m, and so are the suffixes of its slots that it needs at that length
+pub record Done (G : CFG) (L : ℕ) (cells : List ℕ) (m A : ℕ) : Type 0 where
+  pub count : Right G L cells (Nonterminal A) m
+  pub fronts : (s : ℕ) → s < G .slots → Front-right-of G L cells A m s
+
+-- every nonterminal is
+abbrev pub All-done : CFG → ℕ → List ℕ → ℕ → Type 0
+All-done G L cells m = (A : ℕ) → A < G .nonterminals → Done G L cells m A

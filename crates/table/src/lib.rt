@@ -1,0 +1,106 @@
+//! The table of counts: how many sentences each nonterminal has of each length, and in how many ways each suffix of a right-hand side gives it.
+//!
+//! A table for the bound L has a row for each nonterminal, then for each filled slot in order a row for each suffix of its right-hand side but the empty one.
+//! A row holds a cell for each of the lengths 0 to L.
+
+ghost use mathlib.Core.Path.{_≡_};
+ghost use Prim.Native.Nat.{ℕ};
+ghost use denote.Ref.{name};
+ghost use lib.ListN.{length};
+ghost use Rattle.std.specs.Results.{Cases};
+ghost use Rattle.table.specs.Rows.{needed, Room};
+ghost use Rattle.table.specs.Counts.{Sound-table};
+ghost use Rattle.table.specs.Calls.{No-room, Has-room, Counted, Count-refused, Check-refused};
+ghost use Rattle.table.specs.Laws.{Equations-have-one-solution, Counts-fit-below-failure};
+use checking::lowest_broken;
+use fault::Fault;
+use fault::Memory;
+use grammar::Grammar;
+use guard::count_cells;
+use layout::Layout;
+use layout::lay_out;
+
+mod checking;
+mod filling;
+mod guard;
+mod layout;
+mod sums;
+
+/// The greatest bound of a table.
+pub const LONGEST: usize = 48;
+
+/// What a row of a table counts: a nonterminal, or a suffix, the right-hand side of a slot from a position on.
+#[derive(Clone, Copy)]
+pub enum Row {
+    Nonterminal(u8),
+    Suffix { slot: u8, position: u8 },
+}
+
+/// A table: its bound, the greatest length that it has, and the cells that the caller lends for it.
+pub struct Table<'a> {
+    pub bound: usize,
+    pub cells: &'a mut [u64],
+}
+
+// The layout of the table of `g`, if its bound is at most 48 and it has cells enough.
+fn room<G: Grammar>(g: &G, bound: usize, cells: usize) -> Result<Layout, Fault>
+    ensures { λ r. ⌜ Cases r (Has-room (meaning (now (g .entry))) bound cells) (No-room (meaning (now (g .entry))) bound cells) ⌝ }
+{
+    if bound > LONGEST {
+        return Err(Fault::TooLong(bound as u64));
+    }
+    let layout = lay_out(g, bound);
+    if layout.rows * (bound + 1) > cells {
+        return Err(Fault::ShortMemory(Memory::Cells));
+    }
+    Ok(layout)
+}
+
+/// How many cells the table of `g` for its bound needs.
+///
+/// Fault 9 if the bound is above 48, place the bound; 10 if there are too few cells, place 1.
+pub fn needed_cells<G: Grammar>(g: &G, table: &Table<'_>) -> Result<usize, Fault>
+    ensures { λ r. ⌜ Cases r (λ n. Room (meaning (now (g .entry))) (now (table .entry) .bound) (now (now (table .entry) .cells)) × (n ≡ needed (meaning (now (g .entry))) (now (table .entry) .bound))) (No-room (meaning (now (g .entry))) (now (table .entry) .bound) (length (now (now (table .entry) .cells)))) ⌝ }
+{
+    let layout = room(g, table.bound, table.cells.len())?;
+    Ok(layout.rows * (table.bound + 1))
+}
+
+/// Fills the needed cells with the counts: each is how many sentences its nonterminal has of its length, or in how many ways its suffix gives it.
+///
+/// Fault 9 if the bound is above 48, place the bound; 10 if there are too few cells, place 1; 11 if a count passes 2^63 - 1, place the smallest such length.
+/// After 11 the needed cells are 0; after 9 and 10 all stand. The cells past the needed ones always stand.
+pub fn count<G: Grammar>(g: &G, table: &mut Table<'_>) -> Result<(), Fault>
+    ensures ended { λ r. ⌜ Cases r (λ _. Counted (meaning (now (g .entry))) (now (table .entry) .bound) (now (now (table .entry) .cells)) (now (now (table .exit) .cells))) (Count-refused (meaning (now (g .entry))) (now (table .entry) .bound) (now (now (table .entry) .cells)) (now (now (table .exit) .cells))) ⌝ }
+    ensures bound { λ _. ⌜ now (table .exit) .bound ≡ now (table .entry) .bound ⌝ }
+    ensures lent { λ _. ⌜ name (now (table .exit) .cells) ≡ name (now (table .entry) .cells) ⌝ }
+{
+    let layout = room(g, table.bound, table.cells.len())?;
+    match count_cells(g, &layout, table.cells) {
+        Ok(()) => Ok(()),
+        Err(m) => Err(Fault::CountTooLarge(m as u64)),
+    }
+}
+
+/// Whether every needed cell obeys its equation, which is so exactly if the table is sound.
+///
+/// Fault 9 if the bound is above 48, place the bound; 10 if there are too few cells, place 1; 12 if a needed cell breaks its equation, place the lowest such cell.
+pub fn check<G: Grammar>(g: &G, table: &Table<'_>) -> Result<(), Fault>
+    ensures { λ r. ⌜ Cases r (λ _. Room (meaning (now (g .entry))) (now (table .entry) .bound) (now (now (table .entry) .cells)) × Sound-table (meaning (now (g .entry))) (now (table .entry) .bound) (now (now (table .entry) .cells))) (Check-refused (meaning (now (g .entry))) (now (table .entry) .bound) (now (now (table .entry) .cells))) ⌝ }
+{
+    let layout = room(g, table.bound, table.cells.len())?;
+    match lowest_broken(g, &layout, table.cells) {
+        None => Ok(()),
+        Some(i) => Err(Fault::BrokenCell(i as u64)),
+    }
+}
+
+/// A table that satisfies all equations is the table of counts, and only that one does.
+pub fn equations_have_one_solution()
+    ensures { λ _. ⌜ Equations-have-one-solution ⌝ }
+{}
+
+/// Where counting for a bound fails at a length, counting for one less than that length succeeds.
+pub fn counts_fit_below_failure()
+    ensures { λ _. ⌜ Counts-fit-below-failure ⌝ }
+{}

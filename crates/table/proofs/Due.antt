@@ -54,9 +54,9 @@ module _ {G : CFG} {L : ℕ} {t : List ℕ} (z : Limits G) {m : ℕ} (below : Ri
       (λ k o. rest-right G L t s p k Xs (n .0) (λ q. below (Suffix s (p + 1)) k (i, omega arith) o))
       (⊎-elim
       (λ last. ⊎-elim
-        (λ q. inr (rest-right G L t s p m Xs (n .0) (λ o. absurd (omega (arith, ap length q)))))
-        inl
-        (last X Xs e))
+      (λ q. inr (rest-right G L t s p m Xs (n .0) (λ o. absurd (omega (arith, ap length q)))))
+      inl
+      (last X Xs e))
       (λ r. inr (rest-right G L t s p m Xs (n .0) (λ o. r)))
       tl)
 

@@ -43,17 +43,17 @@ module _ {G : CFG} {L : ℕ} {t : List ℕ} {ρ : Row} {r : ℕ} (f : Room G L t
   put-keeps = record {
     long = length-set t (place L r m) v;
     still = λ σ n h o s.
-      ⊎-elim
-      (λ q.
-      let i = same-place L r (row-number G σ) m n l o (sym q) in
-      let j = same-row G ρ σ (a .is-row) h (sym (a .is) ∙ i .0) in
-      subst (λ (τ : Row). Right G L (set t (place L r m) v) τ n) j (subst (λ (x : ℕ). Right G L (set t (place L r m) v) ρ x) (i .1) put-right))
-      (λ (ne : place L (row-number G σ) n ≢ place L r m). record { is = rw getD-set-other (s .is); low = s .low })
-      (cases-eq (place L (row-number G σ) n) (place L r m));
+        ⊎-elim
+        (λ q.
+        let i = same-place L r (row-number G σ) m n l o (sym q) in
+        let j = same-row G ρ σ (a .is-row) h (sym (a .is) ∙ i .0) in
+        subst (λ (τ : Row). Right G L (set t (place L r m) v) τ n) j (subst (λ (x : ℕ). Right G L (set t (place L r m) v) ρ x) (i .1) put-right))
+        (λ (ne : place L (row-number G σ) n ≢ place L r m). record { is = rw getD-set-other (s .is); low = s .low })
+        (cases-eq (place L (row-number G σ) n) (place L r m));
     past = λ k h.
-      let b = cell-below G L ρ m (a .is-row) l in
-      let ne : k ≢ place L r m = omega (arith, ap (λ x. x * (L + 1)) (a .is)) in
-      rw getD-set-other;
+        let b = cell-below G L ρ m (a .is-row) l in
+        let ne : k ≢ place L r m = omega (arith, ap (λ x. x * (L + 1)) (a .is)) in
+        rw getD-set-other;
   }
 
 pub keeps-front : {G : CFG} {L : ℕ} {t u : List ℕ} {m A s : ℕ} → Keeps G L t u → m ≤ L → s < G .slots → Front-right-of G L t A m s → Front-right-of G L u A m s

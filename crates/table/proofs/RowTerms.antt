@@ -83,10 +83,11 @@ module _ {G : CFG} (z : Limits G) where
       go (Suffix s p) (Split b empty) e k q =
           let w = right-of (G .slot s) in
           let i = symbol-at w p b (q .0) in
-          let n = drop-next w p (i .it) (drop (suc p) w) (i .suffix) in
-          (omega (arith, suffix-before G s (G .slots) p (k .1) (k .0)),
-           (λ l. is-nonterminal z s p b i l .1),
-           (λ f. let o = rest-long s p b empty i (q .1) .1 f in omega (arith, suffix-before G s (G .slots) (p + 1) (omega arith) (k .0))))
+          let n = drop-next w p (i .it) (drop (suc p) w) (i .suffix) in (
+            omega (arith, suffix-before G s (G .slots) p (k .1) (k .0)),
+            (λ l. is-nonterminal z s p b i l .1),
+            (λ f. let o = rest-long s p b empty i (q .1) .1 f in omega (arith, suffix-before G s (G .slots) (p + 1) (omega arith) (k .0))),
+          )
 
 -- a sum that agrees with the cell, and one that does not
 pub agreed : (n h : ℕ) (o : Option ℕ) → Within n o → agrees-with o h ≡ true → (h ≡ n) × (h < 2 ^ 63)
@@ -107,8 +108,8 @@ row-broken {G} {L} {t} {ρ} {r} a m i n h o l below e w q k f = record {
   short = l;
   here = e ∙ ap (λ (x : ℕ). place L x m) (a .is);
   broken = λ b.
-    let c : h ≡ cell-at L t (row-number G ρ) m = k ∙ ap (λ (x : ℕ). cell-at L t x m) (a .is) in
-    not-agreed n h o w f (c ∙ b .equal ∙ sym q) (subst (λ (x : ℕ). x < 2 ^ 63) (sym c) (b .small));
+      let c : h ≡ cell-at L t (row-number G ρ) m = k ∙ ap (λ (x : ℕ). cell-at L t x m) (a .is) in
+      not-agreed n h o w f (c ∙ b .equal ∙ sym q) (subst (λ (x : ℕ). x < 2 ^ 63) (sym c) (b .small));
   below = subst (λ (x : ℕ). Obey-below G L t x) (sym e) below;
 }
 

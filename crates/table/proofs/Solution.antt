@@ -71,15 +71,15 @@ module _ {G : CFG} {level : ℕ → ℕ} (ll : LL1 G level) {L : ℕ} {t : List 
         let x = symbol-there w p o in
         let d = drop-next w p (x .0) (x .1) (x .2) in
         let behind : Needs-no-rest G w p ⊎ Right G L t (Suffix s (p + 1)) m =
-            ⊎-elim
-            (λ q. inl (λ X Xs f. let j : X ≡ x .0 = cc (f, x .2) in inr (ap (λ (Y : Symbol). symbol-count (count G) Y 0) j ∙ q)))
-            (λ ne. ⊎-elim
-              (λ q. inl (end-last G w p (omega arith)))
-              (λ q. inr (subst (λ (y : ℕ). Right G L t (Suffix s y) m) (sym (add-one p))
-                (front s n (suc p) i h (omega arith) (omega arith)
-                (subst (λ (u : List Symbol). Nullable G u) (sym (take-next w p (x .0) (x .1) (x .2))) (nullable-join v (symbol-nullable G (x .0) ne))))))
-              (cases-eq n 0))
-            (cases-eq (symbol-count (count G) (x .0) 0) 0) in
+        ⊎-elim
+        (λ q. inl (λ X Xs f. let j : X ≡ x .0 = cc (f, x .2) in inr (ap (λ (Y : Symbol). symbol-count (count G) Y 0) j ∙ q)))
+        (λ ne. ⊎-elim
+        (λ q. inl (end-last G w p (omega arith)))
+        (λ q. inr (subst (λ (y : ℕ). Right G L t (Suffix s y) m) (sym (add-one p))
+        (front s n (suc p) i h (omega arith) (omega arith)
+        (subst (λ (u : List Symbol). Nullable G u) (sym (take-next w p (x .0) (x .1) (x .2))) (nullable-join v (symbol-nullable G (x .0) ne))))))
+        (cases-eq n 0))
+        (cases-eq (symbol-count (count G) (x .0) 0) 0) in
         obeys-right (Suffix s p) m (obey (Suffix s p) m (i, o) short)
         (suffix-due (ll .limits) below s p i o (λ B Xs f. h p B Xs v f) behind)
 
@@ -102,10 +102,10 @@ module _ {G : CFG} {level : ℕ → ℕ} (ll : LL1 G level) {L : ℕ} {t : List 
         let w = right-of (G .slot s) in
         let o : p < length w = omega arith in
         let behind : Needs-no-rest G w p ⊎ Right G L t (Suffix s (p + 1)) m =
-            ⊎-elim
-            (λ q. inl (end-last G w p (omega arith)))
-            (λ q. inr (subst (λ (y : ℕ). Right G L t (Suffix s y) m) (sym (add-one p)) (suffixes s n (suc p) i (omega arith) (omega arith))))
-            (cases-eq n 0) in
+        ⊎-elim
+        (λ q. inl (end-last G w p (omega arith)))
+        (λ q. inr (subst (λ (y : ℕ). Right G L t (Suffix s y) m) (sym (add-one p)) (suffixes s n (suc p) i (omega arith) (omega arith))))
+        (cases-eq n 0) in
         obeys-right (Suffix s p) m (obey (Suffix s p) m (i, o) short)
         (suffix-due (ll .limits) below s p i o (λ B Xs f. head B (nonterminal-known (ll .limits) s p B Xs f)) behind)
 
@@ -168,9 +168,9 @@ module _ {G : CFG} {level : ℕ → ℕ} (ll : LL1 G level) {L : ℕ} {t : List 
     short = s .short;
     passes = record { row = s .over .row; is-row = s .over .is-row; value = count-of G (s .over .row) m; counts = counts ll (s .over .row) m; large = s .over .over };
     first = λ k l p.
-      let e = unique ll (p .row) k (p .value) (p .counts) in
-      let f = s .before-fits (p .row) k (p .is-row) l in
-      omega (arith, p .large);
+        let e = unique ll (p .row) k (p .value) (p .counts) in
+        let f = s .before-fits (p .row) k (p .is-row) l in
+        omega (arith, p .large);
   }
 
 pub one-solution : Equations-have-one-solution

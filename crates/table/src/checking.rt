@@ -33,7 +33,13 @@ fn agrees(sum: Option<u64>, held: u64) -> bool
 }
 
 // The lowest cell of a row that breaks its equation, where none below the row does.
-fn check_row<G: Grammar>(g: &G, layout: &Layout, cells: &[u64], row: Row, at: usize) -> Option<usize>
+fn check_row<G: Grammar>(
+    g: &G,
+    layout: &Layout,
+    cells: &[u64],
+    row: Row,
+    at: usize,
+) -> Option<usize>
     requires laid { ⌜ Laid (meaning (now g)) (now layout .bound) (now layout) ⌝ }
     requires room { ⌜ Room (meaning (now g)) (now layout .bound) (now cells) ⌝ }
     requires stands { ⌜ At-row (meaning (now g)) row at ⌝ }

@@ -32,7 +32,14 @@ fn put(bound: usize, cells: &mut [u64], row: usize, m: usize, value: u64)
 }
 
 // Writes the count of `row`, which stands at `at`, for the length `m`; false where it passes the limit.
-fn fill<G: Grammar>(g: &G, layout: &Layout, cells: &mut [u64], row: Row, at: usize, m: usize) -> bool
+fn fill<G: Grammar>(
+    g: &G,
+    layout: &Layout,
+    cells: &mut [u64],
+    row: Row,
+    at: usize,
+    m: usize,
+) -> bool
     requires laid { ⌜ Laid (meaning (now g)) (now layout .bound) (now layout) ⌝ }
     requires room { ⌜ Room (meaning (now g)) (now layout .bound) (now cells) ⌝ }
     requires short { ⌜ m ≤ now layout .bound ⌝ }
@@ -50,7 +57,15 @@ fn fill<G: Grammar>(g: &G, layout: &Layout, cells: &mut [u64], row: Row, at: usi
 }
 
 // Writes the suffixes of slot `s` from position `to` - 1 down to `from`, for the length `m`; false where a count passes the limit.
-fn fill_suffixes<G: Grammar>(g: &G, layout: &Layout, cells: &mut [u64], s: u8, from: u8, to: u8, m: usize) -> bool
+fn fill_suffixes<G: Grammar>(
+    g: &G,
+    layout: &Layout,
+    cells: &mut [u64],
+    s: u8,
+    from: u8,
+    to: u8,
+    m: usize,
+) -> bool
     requires laid { ⌜ Laid (meaning (now g)) (now layout .bound) (now layout) ⌝ }
     requires room { ⌜ Room (meaning (now g)) (now layout .bound) (now cells) ⌝ }
     requires short { ⌜ m ≤ now layout .bound ⌝ }

@@ -46,7 +46,11 @@ impl Drop for Counting<'_> {
 }
 
 /// Fills the needed cells with the counts up to the layout's bound, or zeroes them and says the smallest length where a count passes the limit.
-pub(crate) fn count_cells<G: Grammar>(g: &G, layout: &Layout, cells: &mut [u64]) -> Result<(), usize>
+pub(crate) fn count_cells<G: Grammar>(
+    g: &G,
+    layout: &Layout,
+    cells: &mut [u64],
+) -> Result<(), usize>
     requires laid { ⌜ Laid (meaning (now g)) (now layout .bound) (now layout) ⌝ }
     requires room { ⌜ Room (meaning (now g)) (now layout .bound) (now cells) ⌝ }
     ensures { λ r. ⌜ Cases r (λ _. Filled (meaning (now (g .entry))) (now (layout .entry) .bound) (now (cells .entry)) (now (cells .exit))) (Stopped (meaning (now (g .entry))) (now (layout .entry) .bound) (now (cells .entry)) (now (cells .exit))) ⌝ }

@@ -71,7 +71,14 @@ fn terminal_sum(bound: usize, cells: &[u64], empty: bool, rest: usize, m: usize)
 }
 
 // The sum over the ways to split `m` between the symbol with that byte and the rest behind it, which has the row `rest` unless it is empty.
-fn suffix_sum(bound: usize, cells: &[u64], symbol: u8, empty: bool, rest: usize, m: usize) -> Option<u64>
+fn suffix_sum(
+    bound: usize,
+    cells: &[u64],
+    symbol: u8,
+    empty: bool,
+    rest: usize,
+    m: usize,
+) -> Option<u64>
     requires small { ⌜ bound ≤ 48 ⌝ ∗ ⌜ rest ≤ 400 ⌝ ∗ ⌜ m ≤ bound ⌝ }
     requires first { ⌜ (128 ≤ symbol → place bound (symbol - 128) bound < length (now cells)) ⌝ }
     requires second { ⌜ (empty ≡ false → place bound rest bound < length (now cells)) ⌝ }
@@ -144,7 +151,14 @@ fn slots_sum<G: Grammar>(g: &G, layout: &Layout, cells: &[u64], a: u8, m: usize)
 }
 
 /// What the equation of the row `at`, of which `terms` was read, says of its cell at `m`, unless that passes the limit.
-pub(crate) fn sum_of<G: Grammar>(g: &G, layout: &Layout, cells: &[u64], terms: Terms, at: usize, m: usize) -> Option<u64>
+pub(crate) fn sum_of<G: Grammar>(
+    g: &G,
+    layout: &Layout,
+    cells: &[u64],
+    terms: Terms,
+    at: usize,
+    m: usize,
+) -> Option<u64>
     requires laid { ⌜ Laid (meaning (now g)) (now layout .bound) (now layout) ⌝ }
     requires room { ⌜ Room (meaning (now g)) (now layout .bound) (now cells) ⌝ }
     requires short { ⌜ m ≤ now layout .bound ⌝ }

@@ -27,11 +27,12 @@ returns-then-not-fill-front g c = let got = c .if-not-fill-front .ensures tt in 
 pub loop-s-again : need.loop-s-again
 loop-s-again g c =
     let G = g .G·Grammar .meaning (c .args .g .now) in
-    let got = c .if-not-fill-front .ensures tt in
-    (keeps-on (c .loop-s .inv .0) (got .keeps),
-     below-more (Front-right-of G (c .args .layout .now .bound) (c .fill-front .last .cells) (c .args .a) (c .args .m)) (c .loop-s .s)
-       (λ q l. keeps-front (got .keeps) (c .pre .short) (omega arith) (c .loop-s .inv .1 q l))
-       (got .done))
+    let got = c .if-not-fill-front .ensures tt in (
+      keeps-on (c .loop-s .inv .0) (got .keeps),
+      below-more (Front-right-of G (c .args .layout .now .bound) (c .fill-front .last .cells) (c .args .a) (c .args .m)) (c .loop-s .s)
+          (λ q l. keeps-front (got .keeps) (c .pre .short) (omega arith) (c .loop-s .inv .1 q l))
+          (got .done),
+    )
 
 pub fill-requires : need.fill-requires
 fill-requires g c κs =

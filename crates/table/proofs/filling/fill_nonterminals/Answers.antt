@@ -36,28 +36,32 @@ loop-a-again g c =
     let h = g .G·Grammar .levels (c .args .g .now) in
     let D : List ℕ → ℕ → Type 0 = λ t B. Done G (c .args .layout .now .bound) t (c .args .m) B in
     let P : List ℕ → Type 0 = λ t.
-        Keeps G (c .args .layout .now .bound) (c .loop-height .cells) t × ((B : ℕ) → B < G .nonterminals → h B < c .loop-height .height → D t B)
-        × ((B : ℕ) → B < c .loop-a .a + 1 → h B ≡ c .loop-height .height → D t B) in
+    Keeps G (c .args .layout .now .bound) (c .loop-height .cells) t × ((B : ℕ) → B < G .nonterminals → h B < c .loop-height .height → D t B)
+    × ((B : ℕ) → B < c .loop-a .a + 1 → h B ≡ c .loop-height .height → D t B) in
     elim (c .if-level-height .came) [
       | then-level-height·else-not-fill-nonterminal w ↦
           let got = w .if-not-fill-nonterminal .ensures tt in
-          subst P (sym (w .cells-is))
-          (keeps-on (c .loop-a .inv .0) (got .keeps),
-           (λ B l o. keeps-done (got .keeps) (c .pre .short) l (c .loop-a .inv .1 B l o)),
-           (λ B l o. ⊎-elim (λ e. subst (λ (x : ℕ). D (w .fill-nonterminal .last .cells) x) (sym e) (got .done))
-             (λ ne. keeps-done (got .keeps) (c .pre .short) (omega arith) (c .loop-a .inv .2 B (omega arith) o))
-             (cases-eq B (c .loop-a .a))))
+          subst P (sym (w .cells-is)) (
+            keeps-on (c .loop-a .inv .0) (got .keeps),
+            (λ B l o. keeps-done (got .keeps) (c .pre .short) l (c .loop-a .inv .1 B l o)),
+            (λ B l o. ⊎-elim (λ e. subst (λ (x : ℕ). D (w .fill-nonterminal .last .cells) x) (sym e) (got .done))
+                (λ ne. keeps-done (got .keeps) (c .pre .short) (omega arith) (c .loop-a .inv .2 B (omega arith) o))
+                (cases-eq B (c .loop-a .a))),
+          )
       | else-level-height w ↦
-          subst P (sym (w .cells-is))
-          (c .loop-a .inv .0, c .loop-a .inv .1,
-           (λ B l o. ⊎-elim (λ e. absurd (w .if-level-height .left (c .level .ensures ∙ ap h (sym e) ∙ o))) (λ ne. c .loop-a .inv .2 B (omega arith) o) (cases-eq B (c .loop-a .a))))
+          subst P (sym (w .cells-is)) (
+            c .loop-a .inv .0,
+            c .loop-a .inv .1,
+            (λ B l o. ⊎-elim (λ e. absurd (w .if-level-height .left (c .level .ensures ∙ ap h (sym e) ∙ o))) (λ ne. c .loop-a .inv .2 B (omega arith) o) (cases-eq B (c .loop-a .a))),
+          )
     ]
 
 pub loop-height-again : need.loop-height-again
 loop-height-again g c =
-    let h = g .G·Grammar .levels (c .args .g .now) in
-    (keeps-on (c .loop-height .inv .0) (c .loop-a .inv .0),
-     λ B l o. ⊎-elim (λ e. c .loop-a .inv .2 B (omega arith) e) (λ ne. c .loop-a .inv .1 B l (omega arith)) (cases-eq (h B) (c .loop-height .height)))
+    let h = g .G·Grammar .levels (c .args .g .now) in (
+      keeps-on (c .loop-height .inv .0) (c .loop-a .inv .0),
+      λ B l o. ⊎-elim (λ e. c .loop-a .inv .2 B (omega arith) e) (λ ne. c .loop-a .inv .1 B l (omega arith)) (cases-eq (h B) (c .loop-height .height)),
+    )
 
 pub returns : need.returns
 returns g c =

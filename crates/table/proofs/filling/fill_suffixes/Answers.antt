@@ -29,9 +29,9 @@ fill-requires g c κs =
     let back : p - 1 + 1 ≡ p = omega arith in
     let firsts = keeps-firsts (f .limits) k (c .pre .short) (c .args .s) (c .args .to) (c .pre .firsts) in
     let behind : Needs-no-rest G w (p - 1) ⊎ Right G (c .args .layout .now .bound) (c .loop-position .cells) (Suffix (c .args .s) (p - 1 + 1)) (c .args .m) =
-        ⊎-elim (λ e. inl (c .pre .last (p - 1) (back ∙ e)))
-        (λ ne. inr (subst (λ (q : ℕ). Right G (c .args .layout .now .bound) (c .loop-position .cells) (Suffix (c .args .s) q) (c .args .m)) (sym back) (c .loop-position .inv .1 p (le-refl p) (omega arith))))
-        (cases-eq p (c .args .to)) in
+    ⊎-elim (λ e. inl (c .pre .last (p - 1) (back ∙ e)))
+    (λ ne. inr (subst (λ (q : ℕ). Right G (c .args .layout .now .bound) (c .loop-position .cells) (Suffix (c .args .s) q) (c .args .m)) (sym back) (c .loop-position .inv .1 p (le-refl p) (omega arith))))
+    (cases-eq p (c .args .to)) in
     record {
       laid = c .pre .laid;
       room = keeps-room k (c .pre .room);
@@ -46,9 +46,10 @@ returns-then-not-fill g c = let got = c .if-not-fill .ensures tt in record { kee
 pub loop-position-again : need.loop-position-again
 loop-position-again g c =
     let G = g .G·Grammar .meaning (c .args .g .now) in
-    let got = c .if-not-fill .ensures tt in
-    (keeps-on (c .loop-position .inv .0) (got .keeps),
-     λ q o l. ⊎-elim
-       (λ e. subst (λ (x : ℕ). Right G (c .args .layout .now .bound) (c .fill .last .cells) (Suffix (c .args .s) x) (c .args .m)) (sym e) (got .done))
-       (λ ne. got .keeps .still (Suffix (c .args .s) q) (c .args .m) (c .pre .inside, omega arith) (c .pre .short) (c .loop-position .inv .1 q (omega arith) l))
-       (cases-eq q (c .loop-position .position - 1)))
+    let got = c .if-not-fill .ensures tt in (
+      keeps-on (c .loop-position .inv .0) (got .keeps),
+      λ q o l. ⊎-elim
+          (λ e. subst (λ (x : ℕ). Right G (c .args .layout .now .bound) (c .fill .last .cells) (Suffix (c .args .s) x) (c .args .m)) (sym e) (got .done))
+          (λ ne. got .keeps .still (Suffix (c .args .s) q) (c .args .m) (c .pre .inside, omega arith) (c .pre .short) (c .loop-position .inv .1 q (omega arith) l))
+          (cases-eq q (c .loop-position .position - 1)),
+    )

@@ -19,10 +19,11 @@ add-rows g c =
 pub loop-s-again : need.loop-s-again
 loop-s-again g c =
     let G = g .G·Grammar .meaning (c .args .g .now) in
-    let f = g .G·Grammar·met .shows (c .args .g .now) in
-    (omega (arith, first-row-more G (c .loop-s .s)),
-     length-set (c .loop-s .starts) (c .loop-s .s) (c .loop-s .rows) ∙ c .loop-s .inv .1,
-     below-set (λ q v. v ≡ first-row G q) (c .loop-s .starts) (c .loop-s .s) (c .loop-s .rows) (omega (arith, f .limits .slots-high)) (c .loop-s .inv .2) (c .loop-s .inv .0))
+    let f = g .G·Grammar·met .shows (c .args .g .now) in (
+      omega (arith, first-row-more G (c .loop-s .s)),
+      length-set (c .loop-s .starts) (c .loop-s .s) (c .loop-s .rows) ∙ c .loop-s .inv .1,
+      below-set (λ q v. v ≡ first-row G q) (c .loop-s .starts) (c .loop-s .s) (c .loop-s .rows) (omega (arith, f .limits .slots-high)) (c .loop-s .inv .2) (c .loop-s .inv .0),
+    )
 
 pub returns : need.returns
 returns g c =

@@ -14,8 +14,8 @@ use Rattle.theory.specs.Grammar.{Symbol, terminal, nonterminal, Slot, rule, emp
 use Rattle.theory.specs.Sets.{Nullable, none, next, First, itself, inside, behind, Follow, from-first, from-left, Next, token, end, Follow-or-end, Predict, by-first, by-follow, Leads, at-front, past, LeftCorner}
 use Rattle.theory.specs.Sound.{Known, Limits}
 use Rattle.theory.specs.Count.{left-of, right-of}
-use Rattle.grammar.specs.Interface.{Chooses, Shows}
-use Rattle.grammar.proofs.Derived.{shows}
+use Rattle.grammar.specs.Interface.{Chooses, Implements}
+use Rattle.grammar.proofs.Derived.{implements}
 use Rattle.brackets.specs.Brackets.{bracket-side, bracket-slot, bracket-grammar, bracket-choice}
 
 -- ---- sides that begin with a terminal, and the empty side, in any grammar
@@ -182,8 +182,8 @@ module _ (k : ℕ) where
   no-leads (pair l z y) p = leads-terminal y p
   no-leads (nothing l z y) p = leads-none y p
 
-  -- the grammar of k kinds of brackets shows what it owes
-  pub bracket-shows : 1 ≤ k → k ≤ 16 → Shows (bracket-grammar k) (bracket-choice k) (λ A. 0)
-  bracket-shows l h =
-      shows (bracket-limits l h) (λ s A Ys e. no-long-side (form k s A Ys e)) bracket-chooses
+  -- the grammar of k kinds of brackets implements what it owes
+  pub bracket-implements : 1 ≤ k → k ≤ 16 → Implements (bracket-grammar k) (bracket-choice k) (λ A. 0)
+  bracket-implements l h =
+      implements (bracket-limits l h) (λ s A Ys e. no-long-side (form k s A Ys e)) bracket-chooses
       (record { small = λ A. omega arith; falls = λ A B c. absurd (no-leads (form k (c .slot) A (c .side) (c .holds)) (c .leads)) }) (λ A i. refl)

@@ -10,7 +10,7 @@ use Rattle.theory.specs.Grammar.{Symbol, CFG, Slot, empty, rule}
 use Rattle.theory.specs.Sets.{Next, Reaches, one-step, more}
 use Rattle.theory.specs.Sound.{Limits, No-long-nullable-side, No-left-recursion, Predict-sets-apart, Levels, LL1}
 use Rattle.theory.specs.Count.{left-of, right-of}
-use Rattle.grammar.specs.Interface.{byte-at, Chooses, Shows, Outside-is-none}
+use Rattle.grammar.specs.Interface.{byte-at, Chooses, Implements, Outside-is-none}
 
 -- an option has one value
 same-some : {o : Option ℕ} {r q : ℕ} → o ≡ Some r → o ≡ Some q → r ≡ q
@@ -30,9 +30,9 @@ pub predict-sets-apart : {G : CFG} {chosen : ℕ → Next → Option ℕ} → Ch
 predict-sets-apart {chosen = chosen} c s s′ A Ys Ys′ n e f p q = same-some {o = chosen A n} (c .predicted A s Ys n e p) (c .predicted A s′ Ys′ n f q)
 
 -- what a grammar owes, from the parts that do not follow from the others
-pub shows : {G : CFG} {chosen : ℕ → Next → Option ℕ} {level : ℕ → ℕ} → Limits G → No-long-nullable-side G → Chooses G chosen → Levels G level
-    → ((A : ℕ) → G .nonterminals ≤ A → level A ≡ 0) → Shows G chosen level
-shows l n c v o = record {
+pub implements : {G : CFG} {chosen : ℕ → Next → Option ℕ} {level : ℕ → ℕ} → Limits G → No-long-nullable-side G → Chooses G chosen → Levels G level
+    → ((A : ℕ) → G .nonterminals ≤ A → level A ≡ 0) → Implements G chosen level
+implements l n c v o = record {
   limits = l;
   sound = record { no-long-nullable-side = n; no-left-recursion = no-left-recursion v; predict-sets-apart = predict-sets-apart c };
   choice = c;
@@ -41,7 +41,7 @@ shows l n c v o = record {
 }
 
 -- what the laws ask of a grammar
-pub ll1-of : {G : CFG} {chosen : ℕ → Next → Option ℕ} {level : ℕ → ℕ} → Shows G chosen level → LL1 G level
+pub ll1-of : {G : CFG} {chosen : ℕ → Next → Option ℕ} {level : ℕ → ℕ} → Implements G chosen level → LL1 G level
 ll1-of s = record { limits = s .limits; apart = s .sound .predict-sets-apart; levels = s .levels }
 
 -- a left-hand side is one of the nonterminals
@@ -67,7 +67,7 @@ past-end (X ∷ Xs) zero h = absurd (omega arith)
 past-end (X ∷ Xs) (suc i) h = past-end Xs i (omega arith)
 
 -- questions out of range answer none, or 0
-pub outside-is-none : {G : CFG} {chosen : ℕ → Next → Option ℕ} {level : ℕ → ℕ} → Shows G chosen level → Outside-is-none G chosen level
+pub outside-is-none : {G : CFG} {chosen : ℕ → Next → Option ℕ} {level : ℕ → ℕ} → Implements G chosen level → Outside-is-none G chosen level
 outside-is-none {G} s = record {
   no-left = λ i h. ap left-of (s .limits .outside i h);
   no-length = λ i h. ap (λ o. length (right-of o)) (s .limits .outside i h);

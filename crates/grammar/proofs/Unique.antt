@@ -13,7 +13,7 @@ use Rattle.std.specs.declared.option.Option.the-variants.{None, Some}
 use Rattle.theory.specs.Grammar.{CFG, Symbol, terminal, nonterminal, empty, symbol-set, slot-set}
 use Rattle.theory.specs.Sets.{Next}
 use Rattle.theory.specs.Sound.{Known, Limits, Sound, Levels, limits-prop, sound-prop, levels-prop}
-use Rattle.grammar.specs.Interface.{Chooses, Shows, chooses-prop, shows-prop}
+use Rattle.grammar.specs.Interface.{Chooses, Implements, chooses-prop, implements-prop}
 
 -- options of numbers are equal or not
 same-option : Discrete (Option ℕ)
@@ -44,9 +44,9 @@ pub one-choice : {G : CFG} {chosen : ℕ → Next → Option ℕ} → IsProp (Ch
 one-choice = chooses-prop (search (props, option-set) depth 8) (search (props, option-set) depth 8) (search (props, option-set) depth 8)
 
 -- what a grammar owes has at most one proof
-pub one-shows : {G : CFG} {chosen : ℕ → Next → Option ℕ} {level : ℕ → ℕ} → IsProp (Shows G chosen level)
-one-shows = shows-prop one-limits one-sound one-choice one-levels (search props depth 8)
+pub one-implements : {G : CFG} {chosen : ℕ → Next → Option ℕ} {level : ℕ → ℕ} → IsProp (Implements G chosen level)
+one-implements = implements-prop one-limits one-sound one-choice one-levels (search props depth 8)
 
 -- what is kept truncated can be had whole
-pub kept-shows : {G : CFG} {chosen : ℕ → Next → Option ℕ} {level : ℕ → ℕ} → ∥ Shows G chosen level ∥₁ → Shows G chosen level
-kept-shows t = ∥∥₁-elim t one-shows (λ s. s)
+pub kept-implements : {G : CFG} {chosen : ℕ → Next → Option ℕ} {level : ℕ → ℕ} → ∥ Implements G chosen level ∥₁ → Implements G chosen level
+kept-implements t = ∥∥₁-elim t one-implements (λ s. s)

@@ -24,9 +24,9 @@ byte-at (X ∷ Xs) zero = Some (byte-of X)
 byte-at (X ∷ Xs) (suc i) = byte-at Xs i
 
 -- what a lookahead stands for
-abbrev pub seen : Lookahead → Next
-seen (Token t) = token t
-seen End = end
+abbrev pub next-of-lookahead : Lookahead → Next
+next-of-lookahead (Token t) = token t
+next-of-lookahead End = end
 
 -- what the choice for a nonterminal and what comes next owes: it is a filled slot of that nonterminal, or none;
 -- it finds the slot whose predict set has what comes next; it is none at what is no terminal
@@ -37,13 +37,13 @@ pub record Chooses (G : CFG) (chosen : ℕ → Next → Option ℕ) : Type 0 whe
   deriving IsProp as chooses-prop
 
 -- what a grammar with its choice and its levels owes: it keeps the limits, it is sound, and choice and levels are as they should be
-pub record Shows (G : CFG) (chosen : ℕ → Next → Option ℕ) (level : ℕ → ℕ) : Type 0 where
+pub record Implements (G : CFG) (chosen : ℕ → Next → Option ℕ) (level : ℕ → ℕ) : Type 0 where
   pub limits : Limits G
   pub sound : Sound G
   pub choice : Chooses G chosen
   pub levels : Levels G level
   pub level-outside : (A : ℕ) → G .nonterminals ≤ A → level A ≡ 0
-  deriving IsProp as shows-prop
+  deriving IsProp as implements-prop
 
 -- a question out of range answers none, or 0 for a length or a level
 pub record Outside-is-none (G : CFG) (chosen : ℕ → Next → Option ℕ) (level : ℕ → ℕ) : Type 0 where

@@ -8,7 +8,7 @@ ghost use Rattle.theory.specs.Grammar.{CFG};
 ghost use Rattle.theory.specs.Sets.{Next};
 ghost use Rattle.theory.specs.Sound.{Limits, Sound};
 ghost use Rattle.theory.specs.Count.{left-of, right-of};
-ghost use Rattle.grammar.specs.Interface.{byte-at, seen, Shows, Outside-is-none};
+ghost use Rattle.grammar.specs.Interface.{byte-at, next-of-lookahead, Implements, Outside-is-none};
 
 /// What comes next in an input: a terminal, or the end.
 #[derive(Clone, Copy)]
@@ -31,7 +31,7 @@ pub trait Grammar {
     ghost levels: { Self → ℕ → ℕ };
 
     /// The grammar keeps the limits and is sound, and choice and levels are as they should be.
-    law shows: { (s : Self) → Shows (meaning s) (chosen s) (levels s) };
+    law implements: { (s : Self) → Implements (meaning s) (chosen s) (levels s) };
 
     /// How many terminals there are.
     fn terminals(&self) -> u8
@@ -68,7 +68,7 @@ pub trait Grammar {
 
     /// The slot chosen for a nonterminal and what comes next; none also if there is no such nonterminal or no such terminal.
     fn choice(&self, a: u8, next: Lookahead) -> Option<u8>
-        ensures { λ r. ⌜ r ≡ chosen (now (self .entry)) a (seen next) ⌝ };
+        ensures { λ r. ⌜ r ≡ chosen (now (self .entry)) a (next-of-lookahead next) ⌝ };
 }
 
 /// Every grammar keeps the limits and is sound.

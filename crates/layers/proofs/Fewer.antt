@@ -11,8 +11,8 @@ use Rattle.theory.specs.Grammar.{Symbol, Slot, CFG, rule, empty, Rule-at}
 use Rattle.theory.specs.Sets.{Next, token}
 use Rattle.theory.specs.Sound.{Limits, Levels}
 use Rattle.theory.specs.Count.{left-of}
-use Rattle.grammar.specs.Interface.{Chooses, Shows}
-use Rattle.grammar.proofs.Derived.{shows}
+use Rattle.grammar.specs.Interface.{Chooses, Implements}
+use Rattle.grammar.proofs.Derived.{implements}
 use Rattle.grammar.proofs.Smaller.{Rules-within, nullable-within, predict-within, corner-within}
 use Rattle.layers.specs.Masks.{keeps}
 use Rattle.layers.specs.Layered.{kept-slots, kept-choice}
@@ -70,8 +70,8 @@ module _ (G : CFG) (m : ℕ) where
   kept-levels : {level : ℕ → ℕ} → Levels G level → Levels (kept-slots G m) level
   kept-levels v = record { small = v .small; falls = λ A B p. v .falls A B (corner-within (kept-slots G m) G within p) }
 
-  -- the restricted grammar shows what it owes
-  pub restricted-shows : (chosen : ℕ → Next → Option ℕ) (level : ℕ → ℕ) → Shows G chosen level → Shows (kept-slots G m) (λ A n. kept-choice m (chosen A n)) level
-  restricted-shows chosen level s =
-      shows (kept-limits (s .limits)) (λ i A Ys e h p. s .sound .no-long-nullable-side i A Ys (within i A Ys e) h (nullable-within (kept-slots G m) G within p))
+  -- the restricted grammar implements what it owes
+  pub restricted-implements : (chosen : ℕ → Next → Option ℕ) (level : ℕ → ℕ) → Implements G chosen level → Implements (kept-slots G m) (λ A n. kept-choice m (chosen A n)) level
+  restricted-implements chosen level s =
+      implements (kept-limits (s .limits)) (λ i A Ys e h p. s .sound .no-long-nullable-side i A Ys (within i A Ys e) h (nullable-within (kept-slots G m) G within p))
       (kept-chooses chosen (s .choice)) (kept-levels (s .levels)) (s .level-outside)

@@ -10,13 +10,13 @@ use Rattle.std.specs.declared.option.Option.the-variants.{None, Some}
 use Rattle.theory.specs.Grammar.{CFG}
 use Rattle.theory.specs.Sets.{Next}
 use Rattle.theory.specs.Sound.{Limits}
-use Rattle.grammar.specs.Interface.{Shows}
-use Rattle.grammar.proofs.Derived.{shows}
+use Rattle.grammar.specs.Interface.{Implements}
+use Rattle.grammar.proofs.Derived.{implements}
 use Rattle.grammar.proofs.Smaller.{Rules-within, nullable-within, predict-within, corner-within}
-use Rattle.layers.specs.Layered.{start-in-force, with-start}
+use Rattle.layers.specs.Layered.{effective-start, with-start}
 
 -- the start in force is a nonterminal
-start-below : (G : CFG) (o : Option ℕ) → G .start < G .nonterminals → start-in-force G o < G .nonterminals
+start-below : (G : CFG) (o : Option ℕ) → G .start < G .nonterminals → effective-start G o < G .nonterminals
 start-below G None h = h
 start-below G (Some A) h =
     cond-both (ltb A (G .nonterminals)) A (G .start) (λ x. x < G .nonterminals) (λ e. ltb-true A (G .nonterminals) e) (λ _. h)
@@ -41,10 +41,10 @@ module _ (G : CFG) (o : Option ℕ) where
     side-known = l .side-known;
   }
 
-  -- the grammar with another start shows what it owes
-  pub start-shows : (chosen : ℕ → Next → Option ℕ) (level : ℕ → ℕ) → Shows G chosen level → Shows (with-start G o) chosen level
-  start-shows chosen level s =
-      shows (start-limits (s .limits)) (λ i A Ys e h p. s .sound .no-long-nullable-side i A Ys e h (nullable-within (with-start G o) G same-rules p))
+  -- the grammar with another start implements what it owes
+  pub start-implements : (chosen : ℕ → Next → Option ℕ) (level : ℕ → ℕ) → Implements G chosen level → Implements (with-start G o) chosen level
+  start-implements chosen level s =
+      implements (start-limits (s .limits)) (λ i A Ys e h p. s .sound .no-long-nullable-side i A Ys e h (nullable-within (with-start G o) G same-rules p))
       (record {
         own = s .choice .own;
         predicted = λ A i Ys n e p. s .choice .predicted A i Ys n e (predict-within (with-start G o) G same-rules p);

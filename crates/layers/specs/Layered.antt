@@ -28,14 +28,14 @@ Mask-set R m before after (Ok _) = Lowest-from m R None × (after ≡ m)
 Mask-set R m before after (Err f) = ((p : ℕ) × Lowest-from m R (Some p) × (f ≡ SettingRefused p)) × (after ≡ before)
 
 -- the start in force: the stored one if it is a nonterminal, else that of the grammar below
-abbrev pub start-in-force : CFG → Option ℕ → ℕ
-start-in-force G None = G .start
-start-in-force G (Some A) = cond (ltb A (G .nonterminals)) A (G .start)
+abbrev pub effective-start : CFG → Option ℕ → ℕ
+effective-start G None = G .start
+effective-start G (Some A) = cond (ltb A (G .nonterminals)) A (G .start)
 
 -- the grammar with another start
 abbrev pub with-start : CFG → Option ℕ → CFG
 with-start G o =
-    record { terminals = G .terminals; nonterminals = G .nonterminals; start = start-in-force G o; slots = G .slots; slot = G .slot }
+    record { terminals = G .terminals; nonterminals = G .nonterminals; start = effective-start G o; slots = G .slots; slot = G .slot }
 
 -- what setting the start A over N nonterminals answers
 abbrev pub start-answer : ℕ → ℕ → Result Unit Fault

@@ -17,12 +17,12 @@ use Rattle.theory.proofs.Counting.{splits-near, slots-same, count-equation}
 use Rattle.table.specs.Rows.{first-row, cell-at}
 use Rattle.table.specs.Equations.{suffix-cell, suffix-sum, equation}
 use Rattle.table.specs.Counts.{count-of}
-use Rattle.table.specs.Filling.{Right, Right-below, Keeps, Firsts-right, Needs-no-rest, Front-right-of}
+use Rattle.table.specs.Filling.{Correct, Correct-below, Keeps, Firsts-correct, Needs-no-rest, Prefix-correct-of}
 use Rattle.table.specs.declared.Row.the-variants.{Nonterminal, Suffix}
 use Rattle.table.proofs.Sides.{drop-next, nonterminal-known}
 
 rest-right : (G : CFG) (L : ℕ) (t : List ℕ) (s p k : ℕ) (Xs : List Symbol) → drop (suc p) (right-of (G .slot s)) ≡ Xs
-    → (0 < length Xs → Right G L t (Suffix s (p + 1)) k) → suffix-cell L t Xs (first-row G s + p + 1) k ≡ side-count (count G) Xs k
+    → (0 < length Xs → Correct G L t (Suffix s (p + 1)) k) → suffix-cell L t Xs (first-row G s + p + 1) k ≡ side-count (count G) Xs k
 unfolding side-count
 rest-right G L t s p k [] e h = refl
 rest-right G L t s p k (Y ∷ Ys) e h =
@@ -31,8 +31,8 @@ rest-right G L t s p k (Y ∷ Ys) e h =
     ap (λ (x : ℕ). cell-at L t x k) i ∙ r .is ∙ ap (λ (x : ℕ). side-count (count G) (drop x (right-of (G .slot s))) k) (add-one p)
     ∙ ap (λ (v : List Symbol). side-count (count G) v k) e
 
-module _ {G : CFG} {L : ℕ} {t : List ℕ} (z : Limits G) {m : ℕ} (below : Right-below G L t m) where
-  symbol-right : (X : Symbol) (j : ℕ) → ((B : ℕ) → X ≡ nonterminal B → (B < G .nonterminals) × Right G L t (Nonterminal B) m) → j ≤ m
+module _ {G : CFG} {L : ℕ} {t : List ℕ} (z : Limits G) {m : ℕ} (below : Correct-below G L t m) where
+  symbol-right : (X : Symbol) (j : ℕ) → ((B : ℕ) → X ≡ nonterminal B → (B < G .nonterminals) × Correct G L t (Nonterminal B) m) → j ≤ m
       → symbol-count (cell-at L t) X j ≡ symbol-count (count G) X j
   symbol-right (terminal x) j h l = refl
   symbol-right (nonterminal B) j h l =
@@ -42,8 +42,8 @@ module _ {G : CFG} {L : ℕ} {t : List ℕ} (z : Limits G) {m : ℕ} (below : Ri
       (cases-eq j m)
 
   suffix-at : (s p : ℕ) (Ys : List Symbol) → s < G .slots → p < length (right-of (G .slot s)) → drop p (right-of (G .slot s)) ≡ Ys
-      → ((B : ℕ) (Xs : List Symbol) → drop p (right-of (G .slot s)) ≡ nonterminal B ∷ Xs → Right G L t (Nonterminal B) m)
-      → Needs-no-rest G (right-of (G .slot s)) p ⊎ Right G L t (Suffix s (p + 1)) m
+      → ((B : ℕ) (Xs : List Symbol) → drop p (right-of (G .slot s)) ≡ nonterminal B ∷ Xs → Correct G L t (Nonterminal B) m)
+      → Needs-no-rest G (right-of (G .slot s)) p ⊎ Correct G L t (Suffix s (p + 1)) m
       → suffix-sum L t Ys (first-row G s + p) m ≡ side-count (count G) Ys m
   unfolding side-count
   suffix-at s p [] i l e hd tl = absurd (omega (arith, ap length e, length-drop p (right-of (G .slot s))))
@@ -62,13 +62,13 @@ module _ {G : CFG} {L : ℕ} {t : List ℕ} (z : Limits G) {m : ℕ} (below : Ri
 
   -- a suffix, where its first symbol is right, and its rest unless it is not needed
   pub suffix-due : (s p : ℕ) → s < G .slots → p < length (right-of (G .slot s))
-      → ((B : ℕ) (Xs : List Symbol) → drop p (right-of (G .slot s)) ≡ nonterminal B ∷ Xs → Right G L t (Nonterminal B) m)
-      → Needs-no-rest G (right-of (G .slot s)) p ⊎ Right G L t (Suffix s (p + 1)) m
+      → ((B : ℕ) (Xs : List Symbol) → drop p (right-of (G .slot s)) ≡ nonterminal B ∷ Xs → Correct G L t (Nonterminal B) m)
+      → Needs-no-rest G (right-of (G .slot s)) p ⊎ Correct G L t (Suffix s (p + 1)) m
       → equation G L t (Suffix s p) m ≡ count-of G (Suffix s p) m
   suffix-due s p i l hd tl = suffix-at s p (drop p (right-of (G .slot s))) i l refl hd tl
 
 pub keeps-firsts : {G : CFG} {L : ℕ} {t u : List ℕ} {m : ℕ} → Limits G → Keeps G L t u → m ≤ L → (s p : ℕ)
-    → Firsts-right G L t (right-of (G .slot s)) p m → Firsts-right G L u (right-of (G .slot s)) p m
+    → Firsts-correct G L t (right-of (G .slot s)) p m → Firsts-correct G L u (right-of (G .slot s)) p m
 keeps-firsts {m = m} z k l s p h q B Xs o e = k .still (Nonterminal B) m (nonterminal-known z s q B Xs e) l (h q B Xs o e)
 
 side-right : (G : CFG) (L : ℕ) (t : List ℕ) (s m : ℕ) (Ys : List Symbol) → (0 < length Ys → cell-at L t (first-row G s + 0) m ≡ side-count (count G) Ys m)
@@ -79,7 +79,7 @@ side-right G L t s m (X ∷ Xs) k = let e : first-row G s ≡ first-row G s + 0 
 
 -- a nonterminal, where the right-hand sides of its slots are right
 pub nonterminal-due : {G : CFG} {level : ℕ → ℕ} {L : ℕ} {t : List ℕ} → LL1 G level → (A m : ℕ)
-    → ((s : ℕ) → s < G .slots → Front-right-of G L t A m s) → equation G L t (Nonterminal A) m ≡ count-of G (Nonterminal A) m
+    → ((s : ℕ) → s < G .slots → Prefix-correct-of G L t A m s) → equation G L t (Nonterminal A) m ≡ count-of G (Nonterminal A) m
 nonterminal-due {G} {L = L} {t} ll A m h =
     slots-same G A (λ s. suffix-cell L t (right-of (G .slot s)) (first-row G s) m) (λ s. side-count (count G) (right-of (G .slot s)) m) (G .slots)
     (λ s l e. side-right G L t s m (right-of (G .slot s)) (λ o. h s l e 0 o none .is))

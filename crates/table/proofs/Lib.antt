@@ -5,5 +5,5 @@ pub mod Terms
 pub mod RowTerms
 pub mod Fills
 pub mod Due
-pub mod Front
+pub mod Prefix
 pub mod Solution

@@ -20,14 +20,14 @@ use Rattle.theory.proofs.Laws.{one-way-to-nothing}
 use Rattle.table.specs.Rows.{Row-of, row-number, cell-at, Room}
 use Rattle.table.specs.Equations.{equation, Obeys, All-obey}
 use Rattle.table.specs.Counts.{Stands-for, Sound-cell, Sound-table, Passes, First-passes, count-of}
-use Rattle.table.specs.Filling.{Right, Right-below, Needs-no-rest, Corners-right, Leaders-right, Front-right-of, Over}
+use Rattle.table.specs.Filling.{Correct, Correct-below, Needs-no-rest, Corners-correct, Leading-correct, Prefix-correct-of, Over}
 use Rattle.table.specs.Calls.{Filled, Stopped, Counted, Count-refused, too-large}
 use Rattle.table.specs.Laws.{Equations-have-one-solution, Counts-fit-below-failure}
 use Rattle.table.specs.declared.Row.{Row}
 use Rattle.table.specs.declared.Row.the-variants.{Nonterminal, Suffix}
 use Rattle.table.proofs.Sides.{drop-next, nonterminal-known}
 use Rattle.table.proofs.Due.{suffix-due, nonterminal-due}
-use Rattle.table.proofs.Front.{end-last, leaders-of}
+use Rattle.table.proofs.Prefix.{end-last, leaders-of}
 
 -- a position in a list has a symbol
 symbol-there : (Ys : List Symbol) (p : ℕ) → p < length Ys → (X : Symbol) × (Xs : List Symbol) × (drop p Ys ≡ X ∷ Xs)
@@ -57,26 +57,26 @@ module _ {G : CFG} {level : ℕ → ℕ} (ll : LL1 G level) where
 
 module _ {G : CFG} {level : ℕ → ℕ} (ll : LL1 G level) {L : ℕ} {t : List ℕ} where
   -- a cell that obeys an equation which says the count holds the count
-  obeys-right : (ρ : Row) (m : ℕ) → Obeys G L t ρ m → equation G L t ρ m ≡ count-of G ρ m → Right G L t ρ m
+  obeys-right : (ρ : Row) (m : ℕ) → Obeys G L t ρ m → equation G L t ρ m ≡ count-of G ρ m → Correct G L t ρ m
   obeys-right ρ m o e = record { is = o .equal ∙ e; low = subst (λ (x : ℕ). x < 2 ^ 63) (o .equal ∙ e) (o .small) }
 
-  module _ (obey : All-obey G L t) (m : ℕ) (short : m ≤ L) (below : Right-below G L t m) where
+  module _ (obey : All-obey G L t) (m : ℕ) (short : m ≤ L) (below : Correct-below G L t m) where
     -- the suffixes behind nullable symbols, from the last down
-    front : (s n p : ℕ) → s < G .slots → Leaders-right G L t (right-of (G .slot s)) m → n + p ≡ length (right-of (G .slot s)) → 0 < n
-        → Nullable G (take p (right-of (G .slot s))) → Right G L t (Suffix s p) m
-    front s zero p i h e l v = absurd (omega arith)
-    front s (suc n) p i h e l v =
+    prefix : (s n p : ℕ) → s < G .slots → Leading-correct G L t (right-of (G .slot s)) m → n + p ≡ length (right-of (G .slot s)) → 0 < n
+        → Nullable G (take p (right-of (G .slot s))) → Correct G L t (Suffix s p) m
+    prefix s zero p i h e l v = absurd (omega arith)
+    prefix s (suc n) p i h e l v =
         let w = right-of (G .slot s) in
         let o : p < length w = omega arith in
         let x = symbol-there w p o in
         let d = drop-next w p (x .0) (x .1) (x .2) in
-        let behind : Needs-no-rest G w p ⊎ Right G L t (Suffix s (p + 1)) m =
+        let behind : Needs-no-rest G w p ⊎ Correct G L t (Suffix s (p + 1)) m =
         ⊎-elim
         (λ q. inl (λ X Xs f. let j : X ≡ x .0 = cc (f, x .2) in inr (ap (λ (Y : Symbol). symbol-count (count G) Y 0) j ∙ q)))
         (λ ne. ⊎-elim
         (λ q. inl (end-last G w p (omega arith)))
-        (λ q. inr (subst (λ (y : ℕ). Right G L t (Suffix s y) m) (sym (add-one p))
-        (front s n (suc p) i h (omega arith) (omega arith)
+        (λ q. inr (subst (λ (y : ℕ). Correct G L t (Suffix s y) m) (sym (add-one p))
+        (prefix s n (suc p) i h (omega arith) (omega arith)
         (subst (λ (u : List Symbol). Nullable G u) (sym (take-next w p (x .0) (x .1) (x .2))) (nullable-join v (symbol-nullable G (x .0) ne))))))
         (cases-eq n 0))
         (cases-eq (symbol-count (count G) (x .0) 0) 0) in
@@ -84,52 +84,52 @@ module _ {G : CFG} {level : ℕ → ℕ} (ll : LL1 G level) {L : ℕ} {t : List 
         (suffix-due (ll .limits) below s p i o (λ B Xs f. h p B Xs v f) behind)
 
     -- the nonterminals, by ascending level
-    heads : (k A : ℕ) → level A < k → A < G .nonterminals → Right G L t (Nonterminal A) m
+    heads : (k A : ℕ) → level A < k → A < G .nonterminals → Correct G L t (Nonterminal A) m
     heads zero A l i = absurd (omega arith)
     heads (suc k) A l i =
-        let corners : Corners-right G L t A m = λ B j c. heads k B (omega (arith, ll .levels .falls A B c)) j in
+        let corners : Corners-correct G L t A m = λ B j c. heads k B (omega (arith, ll .levels .falls A B c)) j in
         obeys-right (Nonterminal A) m (obey (Nonterminal A) m i short)
         (nonterminal-due ll A m
-        (λ s o e p q v. front s (length (right-of (G .slot s)) - p) p o (leaders-of (ll .limits) A m s corners e) (omega arith) (omega arith) v))
+        (λ s o e p q v. prefix s (length (right-of (G .slot s)) - p) p o (leaders-of (ll .limits) A m s corners e) (omega arith) (omega arith) v))
 
-    head : (A : ℕ) → A < G .nonterminals → Right G L t (Nonterminal A) m
+    head : (A : ℕ) → A < G .nonterminals → Correct G L t (Nonterminal A) m
     head A i = heads (suc (level A)) A (le-refl _) i
 
     -- all suffixes, from the last down
-    suffixes : (s n p : ℕ) → s < G .slots → n + p ≡ length (right-of (G .slot s)) → 0 < n → Right G L t (Suffix s p) m
+    suffixes : (s n p : ℕ) → s < G .slots → n + p ≡ length (right-of (G .slot s)) → 0 < n → Correct G L t (Suffix s p) m
     suffixes s zero p i e l = absurd (omega arith)
     suffixes s (suc n) p i e l =
         let w = right-of (G .slot s) in
         let o : p < length w = omega arith in
-        let behind : Needs-no-rest G w p ⊎ Right G L t (Suffix s (p + 1)) m =
+        let behind : Needs-no-rest G w p ⊎ Correct G L t (Suffix s (p + 1)) m =
         ⊎-elim
         (λ q. inl (end-last G w p (omega arith)))
-        (λ q. inr (subst (λ (y : ℕ). Right G L t (Suffix s y) m) (sym (add-one p)) (suffixes s n (suc p) i (omega arith) (omega arith))))
+        (λ q. inr (subst (λ (y : ℕ). Correct G L t (Suffix s y) m) (sym (add-one p)) (suffixes s n (suc p) i (omega arith) (omega arith))))
         (cases-eq n 0) in
         obeys-right (Suffix s p) m (obey (Suffix s p) m (i, o) short)
         (suffix-due (ll .limits) below s p i o (λ B Xs f. head B (nonterminal-known (ll .limits) s p B Xs f)) behind)
 
-    rows-right : (ρ : Row) → Row-of G ρ → Right G L t ρ m
+    rows-right : (ρ : Row) → Row-of G ρ → Correct G L t ρ m
     rows-right (Nonterminal A) i = head A i
     rows-right (Suffix s p) i = suffixes s (length (right-of (G .slot s)) - p) p (i .0) (omega arith) (omega arith)
 
   -- a table that obeys its equations holds the counts, length by length
-  obey-right : All-obey G L t → (m : ℕ) → m ≤ L + 1 → Right-below G L t m
+  obey-right : All-obey G L t → (m : ℕ) → m ≤ L + 1 → Correct-below G L t m
   obey-right obey zero l ρ k i o = absurd (omega arith)
   obey-right obey (suc m) l ρ k i o =
       let below = obey-right obey m (omega arith) in
       ⊎-elim
-      (λ e. subst (λ (x : ℕ). Right G L t ρ x) (sym e) (rows-right obey m (omega arith) below ρ i))
+      (λ e. subst (λ (x : ℕ). Correct G L t ρ x) (sym e) (rows-right obey m (omega arith) below ρ i))
       (λ ne. below ρ k i (omega arith))
       (cases-eq k m)
 
   -- and the counts obey the equations
-  right-obeys : Right-below G L t (L + 1) → All-obey G L t
+  right-obeys : Correct-below G L t (L + 1) → All-obey G L t
   right-obeys right ρ m i l =
       let r = right ρ m i (omega arith) in
       record { equal = r .is ∙ sym (due ρ i); small = subst (λ (x : ℕ). x < 2 ^ 63) (sym (r .is)) (r .low) }
     where
-      below : Right-below G L t m
+      below : Correct-below G L t m
       below σ k h o = right σ k h (omega arith)
 
       due : (σ : Row) → Row-of G σ → equation G L t σ m ≡ count-of G σ m
@@ -142,7 +142,7 @@ module _ {G : CFG} {level : ℕ → ℕ} (ll : LL1 G level) {L : ℕ} {t : List 
           (λ o. inl (end-last G (right-of (G .slot s)) p o))
           (cases-lt (p + 1) (length (right-of (G .slot s)))))
 
-  pub right-sound : Right-below G L t (L + 1) → Sound-table G L t
+  pub right-sound : Correct-below G L t (L + 1) → Sound-table G L t
   right-sound right ρ m i l =
       let r = right ρ m i (omega arith) in
       record {
@@ -150,7 +150,7 @@ module _ {G : CFG} {level : ℕ → ℕ} (ll : LL1 G level) {L : ℕ} {t : List 
         small = subst (λ (x : ℕ). x < 2 ^ 63) (sym (r .is)) (r .low);
       }
 
-  sound-right : Sound-table G L t → Right-below G L t (L + 1)
+  sound-right : Sound-table G L t → Correct-below G L t (L + 1)
   sound-right sound ρ m i l =
       let c = sound ρ m i (omega arith) in
       let e = unique ll ρ m (cell-at L t (row-number G ρ) m) (c .counts) in

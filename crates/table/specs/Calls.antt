@@ -13,7 +13,7 @@ use Rattle.table.specs.Layouts.{Laid}
 use Rattle.table.specs.declared.layout.Layout.{Layout}
 use Rattle.table.specs.Equations.{Lowest-broken}
 use Rattle.table.specs.Counts.{Sound-table, First-passes, count-of}
-use Rattle.table.specs.Filling.{Right-below, Over}
+use Rattle.table.specs.Filling.{Correct-below, Over}
 use Rattle.table.specs.declared.Row.{Row}
 
 -- the cells from n on are as they stood
@@ -36,7 +36,7 @@ pub data No-room (G : CFG) (L n : ℕ) : Fault → Type 0 where
 
 -- the needed cells hold their counts, and the others are as they stood
 pub record Filled (G : CFG) (L : ℕ) (before after : List ℕ) : Type 0 where
-  pub right : Right-below G L after (L + 1)
+  pub right : Correct-below G L after (L + 1)
   pub rest : Same-past (needed G L) before after
 
 -- a count passes the limit first at m, and the needed cells are 0

@@ -27,18 +27,18 @@ agrees-with (Some s) held = eqb s held
 agrees-with None held = false
 
 -- the cell of ρ at m holds its count
-pub record Right (G : CFG) (L : ℕ) (cells : List ℕ) (ρ : Row) (m : ℕ) : Type 0 where
+pub record Correct (G : CFG) (L : ℕ) (cells : List ℕ) (ρ : Row) (m : ℕ) : Type 0 where
   pub is : cell-at L cells (row-number G ρ) m ≡ count-of G ρ m
   pub low : count-of G ρ m < 2 ^ 63
 
 -- all rows are right below m
-abbrev pub Right-below : CFG → ℕ → List ℕ → ℕ → Type 0
-Right-below G L cells m = (ρ : Row) (k : ℕ) → Row-of G ρ → k < m → Right G L cells ρ k
+abbrev pub Correct-below : CFG → ℕ → List ℕ → ℕ → Type 0
+Correct-below G L cells m = (ρ : Row) (k : ℕ) → Row-of G ρ → k < m → Correct G L cells ρ k
 
 -- what was right before still is, and what the table does not need is as it was
 pub record Keeps (G : CFG) (L : ℕ) (before after : List ℕ) : Type 0 where
   pub long : length after ≡ length before
-  pub still : (ρ : Row) (m : ℕ) → Row-of G ρ → m ≤ L → Right G L before ρ m → Right G L after ρ m
+  pub still : (ρ : Row) (m : ℕ) → Row-of G ρ → m ≤ L → Correct G L before ρ m → Correct G L after ρ m
   pub past : (k : ℕ) → needed G L ≤ k → getD after k 0 ≡ getD before k 0
 
 -- the count of some row at m passes the limit
@@ -53,33 +53,33 @@ Unless-over true G m P = P
 Unless-over false G m P = Over G m
 
 -- the nonterminals that stand in Ys before p are right at m
-abbrev pub Firsts-right : CFG → ℕ → List ℕ → List Symbol → ℕ → ℕ → Type 0
-Firsts-right G L cells Ys p m = (q B : ℕ) (Xs : List Symbol) → q < p → drop q Ys ≡ nonterminal B ∷ Xs → Right G L cells (Nonterminal B) m
+abbrev pub Firsts-correct : CFG → ℕ → List ℕ → List Symbol → ℕ → ℕ → Type 0
+Firsts-correct G L cells Ys p m = (q B : ℕ) (Xs : List Symbol) → q < p → drop q Ys ≡ nonterminal B ∷ Xs → Correct G L cells (Nonterminal B) m
 
 -- the suffix from p on does not need the rest behind its first symbol at its own length: there is none, or the symbol is not nullable
 abbrev pub Needs-no-rest : CFG → List Symbol → ℕ → Type 0
 Needs-no-rest G Ys p = (X : Symbol) (Xs : List Symbol) → drop p Ys ≡ X ∷ Xs → (Xs ≡ []) ⊎ (symbol-count (count G) X 0 ≡ 0)
 
 -- the left corners of A are right at m
-abbrev pub Corners-right : CFG → ℕ → List ℕ → ℕ → ℕ → Type 0
-Corners-right G L cells A m = (B : ℕ) → B < G .nonterminals → LeftCorner G A B → Right G L cells (Nonterminal B) m
+abbrev pub Corners-correct : CFG → ℕ → List ℕ → ℕ → ℕ → Type 0
+Corners-correct G L cells A m = (B : ℕ) → B < G .nonterminals → LeftCorner G A B → Correct G L cells (Nonterminal B) m
 
 -- the nonterminals of Ys behind what is nullable are right at m
-abbrev pub Leaders-right : CFG → ℕ → List ℕ → List Symbol → ℕ → Type 0
-Leaders-right G L cells Ys m = (p B : ℕ) (Xs : List Symbol) → Nullable G (take p Ys) → drop p Ys ≡ nonterminal B ∷ Xs → Right G L cells (Nonterminal B) m
+abbrev pub Leading-correct : CFG → ℕ → List ℕ → List Symbol → ℕ → Type 0
+Leading-correct G L cells Ys m = (p B : ℕ) (Xs : List Symbol) → Nullable G (take p Ys) → drop p Ys ≡ nonterminal B ∷ Xs → Correct G L cells (Nonterminal B) m
 
 -- the suffixes of slot s behind what is nullable are right at m
-abbrev pub Front-right : CFG → ℕ → List ℕ → ℕ → ℕ → Type 0
-Front-right G L cells m s = (p : ℕ) → p < length (right-of (G .slot s)) → Nullable G (take p (right-of (G .slot s))) → Right G L cells (Suffix s p) m
+abbrev pub Prefix-correct : CFG → ℕ → List ℕ → ℕ → ℕ → Type 0
+Prefix-correct G L cells m s = (p : ℕ) → p < length (right-of (G .slot s)) → Nullable G (take p (right-of (G .slot s))) → Correct G L cells (Suffix s p) m
 
 -- so are those of slot s if it is one of A's
-abbrev pub Front-right-of : CFG → ℕ → List ℕ → ℕ → ℕ → ℕ → Type 0
-Front-right-of G L cells A m s = left-of (G .slot s) ≡ Some A → Front-right G L cells m s
+abbrev pub Prefix-correct-of : CFG → ℕ → List ℕ → ℕ → ℕ → ℕ → Type 0
+Prefix-correct-of G L cells A m s = left-of (G .slot s) ≡ Some A → Prefix-correct G L cells m s
 
 -- A is right at m, and so are the suffixes of its slots that it needs at that length
 pub record Done (G : CFG) (L : ℕ) (cells : List ℕ) (m A : ℕ) : Type 0 where
-  pub count : Right G L cells (Nonterminal A) m
-  pub fronts : (s : ℕ) → s < G .slots → Front-right-of G L cells A m s
+  pub count : Correct G L cells (Nonterminal A) m
+  pub prefixes : (s : ℕ) → s < G .slots → Prefix-correct-of G L cells A m s
 
 -- every nonterminal is
 abbrev pub All-done : CFG → ℕ → List ℕ → ℕ → Type 0

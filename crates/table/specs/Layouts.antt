@@ -22,7 +22,7 @@ use Rattle.table.specs.declared.layout.Layout.{Layout}
 pub record Laid (G : CFG) (L : ℕ) (layout : Layout) : Type 0 where
   pub bound : layout .bound ≡ L
   pub rows : layout .rows ≡ rows G
-  pub starts : (s : ℕ) → s < G .slots → getD (layout .starts) s 0 ≡ first-row G s
+  pub offsets : (s : ℕ) → s < G .slots → getD (layout .offsets) s 0 ≡ first-row G s
 
 -- ρ is row r of G
 pub record At-row (G : CFG) (ρ : Row) (r : ℕ) : Type 0 where

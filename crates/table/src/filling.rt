@@ -15,7 +15,7 @@ ghost use Rattle.table.specs.Equations.{equation};
 ghost use Rattle.table.specs.Terms.{byte-count};
 ghost use Rattle.table.specs.Counts.{count-of};
 ghost use Rattle.table.specs.Layouts.{Laid, At-row};
-ghost use Rattle.table.specs.Filling.{Right, Right-below, Keeps, Unless-over, Firsts-right, Needs-no-rest, Corners-right, Leaders-right, Front-right-of, Done, All-done};
+ghost use Rattle.table.specs.Filling.{Correct, Correct-below, Keeps, Unless-over, Firsts-correct, Needs-no-rest, Corners-correct, Leading-correct, Prefix-correct-of, Done, All-done};
 use crate::Row;
 use crate::layout::Layout;
 use crate::sums::cell;
@@ -46,7 +46,7 @@ fn fill<G: Grammar>(
     requires stands { ⌜ At-row (meaning (now g)) row at ⌝ }
     requires due { ⌜ equation (meaning (now g)) (now layout .bound) (now cells) row m ≡ count-of (meaning (now g)) row m ⌝ }
     ensures keeps { λ _. ⌜ Keeps (meaning (now (g .entry))) (now (layout .entry) .bound) (now (cells .entry)) (now (cells .exit)) ⌝ }
-    ensures done { λ r. ⌜ Unless-over r (meaning (now (g .entry))) m (Right (meaning (now (g .entry))) (now (layout .entry) .bound) (now (cells .exit)) row m) ⌝ }
+    ensures done { λ r. ⌜ Unless-over r (meaning (now (g .entry))) m (Correct (meaning (now (g .entry))) (now (layout .entry) .bound) (now (cells .exit)) row m) ⌝ }
 {
     let terms = terms_of(g, row);
     let Some(value) = sum_of(g, layout, cells, terms, at, m) else {
@@ -71,16 +71,16 @@ fn fill_suffixes<G: Grammar>(
     requires short { ⌜ m ≤ now layout .bound ⌝ }
     requires inside { ⌜ s < meaning (now g) .slots ⌝ }
     requires far { ⌜ to ≤ length (right-of (meaning (now g) .slot s)) ⌝ }
-    requires below { ⌜ Right-below (meaning (now g)) (now layout .bound) (now cells) m ⌝ }
-    requires firsts { ⌜ Firsts-right (meaning (now g)) (now layout .bound) (now cells) (right-of (meaning (now g) .slot s)) to m ⌝ }
+    requires below { ⌜ Correct-below (meaning (now g)) (now layout .bound) (now cells) m ⌝ }
+    requires firsts { ⌜ Firsts-correct (meaning (now g)) (now layout .bound) (now cells) (right-of (meaning (now g) .slot s)) to m ⌝ }
     requires last { ⌜ ((p : ℕ) → p + 1 ≡ to → Needs-no-rest (meaning (now g)) (right-of (meaning (now g) .slot s)) p) ⌝ }
     ensures keeps { λ _. ⌜ Keeps (meaning (now (g .entry))) (now (layout .entry) .bound) (now (cells .entry)) (now (cells .exit)) ⌝ }
-    ensures done { λ r. ⌜ Unless-over r (meaning (now (g .entry))) m ((q : ℕ) → from ≤ q → q < to → Right (meaning (now (g .entry))) (now (layout .entry) .bound) (now (cells .exit)) (Row.Suffix s q) m) ⌝ }
+    ensures done { λ r. ⌜ Unless-over r (meaning (now (g .entry))) m ((q : ℕ) → from ≤ q → q < to → Correct (meaning (now (g .entry))) (now (layout .entry) .bound) (now (cells .exit)) (Row.Suffix s q) m) ⌝ }
 {
-    let start = layout.starts[s as usize];
+    let offset = layout.offsets[s as usize];
     for position in (from..to).rev() {
         let row = Row::Suffix { slot: s, position };
-        if !fill(g, layout, cells, row, start + position as usize, m) {
+        if !fill(g, layout, cells, row, offset + position as usize, m) {
             return false;
         }
     }
@@ -96,11 +96,11 @@ fn is_nullable(bound: usize, cells: &[u64], symbol: u8) -> bool
 }
 
 // The position in slot `s` of the first symbol that is not nullable, or else the last position.
-fn front_end<G: Grammar>(g: &G, layout: &Layout, cells: &[u64], s: u8) -> u8
+fn prefix_end<G: Grammar>(g: &G, layout: &Layout, cells: &[u64], s: u8) -> u8
     requires room { ⌜ Room (meaning (now g)) (now layout .bound) (now cells) ⌝ }
     requires inside { ⌜ s < meaning (now g) .slots ⌝ }
     requires some { ⌜ 0 < length (right-of (meaning (now g) .slot s)) ⌝ }
-    requires leaders { ⌜ Leaders-right (meaning (now g)) (now layout .bound) (now cells) (right-of (meaning (now g) .slot s)) 0 ⌝ }
+    requires leaders { ⌜ Leading-correct (meaning (now g)) (now layout .bound) (now cells) (right-of (meaning (now g) .slot s)) 0 ⌝ }
     ensures far { λ r. ⌜ r < length (right-of (meaning (now (g .entry)) .slot s)) ⌝ }
     ensures before { λ r. ⌜ Nullable (meaning (now (g .entry))) (take r (right-of (meaning (now (g .entry)) .slot s))) ⌝ }
     ensures last { λ r. ⌜ Needs-no-rest (meaning (now (g .entry))) (right-of (meaning (now (g .entry)) .slot s)) r ⌝ }
@@ -118,19 +118,19 @@ fn front_end<G: Grammar>(g: &G, layout: &Layout, cells: &[u64], s: u8) -> u8
 }
 
 // Writes the suffixes of slot `s` that its left-hand side, if that is `a`, needs for the length `m`; false where a count passes the limit.
-fn fill_front<G: Grammar>(g: &G, layout: &Layout, cells: &mut [u64], a: u8, s: u8, m: usize) -> bool
+fn fill_prefix<G: Grammar>(g: &G, layout: &Layout, cells: &mut [u64], a: u8, s: u8, m: usize) -> bool
     requires laid { ⌜ Laid (meaning (now g)) (now layout .bound) (now layout) ⌝ }
     requires room { ⌜ Room (meaning (now g)) (now layout .bound) (now cells) ⌝ }
     requires short { ⌜ m ≤ now layout .bound ⌝ }
     requires inside { ⌜ s < meaning (now g) .slots ⌝ }
-    requires below { ⌜ Right-below (meaning (now g)) (now layout .bound) (now cells) m ⌝ }
-    requires corners { ⌜ Corners-right (meaning (now g)) (now layout .bound) (now cells) a m ⌝ }
+    requires below { ⌜ Correct-below (meaning (now g)) (now layout .bound) (now cells) m ⌝ }
+    requires corners { ⌜ Corners-correct (meaning (now g)) (now layout .bound) (now cells) a m ⌝ }
     ensures keeps { λ _. ⌜ Keeps (meaning (now (g .entry))) (now (layout .entry) .bound) (now (cells .entry)) (now (cells .exit)) ⌝ }
-    ensures done { λ r. ⌜ Unless-over r (meaning (now (g .entry))) m (Front-right-of (meaning (now (g .entry))) (now (layout .entry) .bound) (now (cells .exit)) a m s) ⌝ }
+    ensures done { λ r. ⌜ Unless-over r (meaning (now (g .entry))) m (Prefix-correct-of (meaning (now (g .entry))) (now (layout .entry) .bound) (now (cells .exit)) a m s) ⌝ }
 {
     if let Some(b) = g.left(s) {
         if b == a && g.length(s) > 0 {
-            let end = front_end(g, layout, cells, s);
+            let end = prefix_end(g, layout, cells, s);
             return fill_suffixes(g, layout, cells, s, 0, end + 1, m);
         }
     }
@@ -143,13 +143,13 @@ fn fill_nonterminal<G: Grammar>(g: &G, layout: &Layout, cells: &mut [u64], a: u8
     requires room { ⌜ Room (meaning (now g)) (now layout .bound) (now cells) ⌝ }
     requires short { ⌜ m ≤ now layout .bound ⌝ }
     requires inside { ⌜ a < meaning (now g) .nonterminals ⌝ }
-    requires below { ⌜ Right-below (meaning (now g)) (now layout .bound) (now cells) m ⌝ }
-    requires corners { ⌜ Corners-right (meaning (now g)) (now layout .bound) (now cells) a m ⌝ }
+    requires below { ⌜ Correct-below (meaning (now g)) (now layout .bound) (now cells) m ⌝ }
+    requires corners { ⌜ Corners-correct (meaning (now g)) (now layout .bound) (now cells) a m ⌝ }
     ensures keeps { λ _. ⌜ Keeps (meaning (now (g .entry))) (now (layout .entry) .bound) (now (cells .entry)) (now (cells .exit)) ⌝ }
     ensures done { λ r. ⌜ Unless-over r (meaning (now (g .entry))) m (Done (meaning (now (g .entry))) (now (layout .entry) .bound) (now (cells .exit)) m a) ⌝ }
 {
     for s in 0..g.slots() {
-        if !fill_front(g, layout, cells, a, s, m) {
+        if !fill_prefix(g, layout, cells, a, s, m) {
             return false;
         }
     }
@@ -161,13 +161,13 @@ fn fill_nonterminals<G: Grammar>(g: &G, layout: &Layout, cells: &mut [u64], m: u
     requires laid { ⌜ Laid (meaning (now g)) (now layout .bound) (now layout) ⌝ }
     requires room { ⌜ Room (meaning (now g)) (now layout .bound) (now cells) ⌝ }
     requires short { ⌜ m ≤ now layout .bound ⌝ }
-    requires below { ⌜ Right-below (meaning (now g)) (now layout .bound) (now cells) m ⌝ }
+    requires below { ⌜ Correct-below (meaning (now g)) (now layout .bound) (now cells) m ⌝ }
     ensures keeps { λ _. ⌜ Keeps (meaning (now (g .entry))) (now (layout .entry) .bound) (now (cells .entry)) (now (cells .exit)) ⌝ }
     ensures done { λ r. ⌜ Unless-over r (meaning (now (g .entry))) m (All-done (meaning (now (g .entry))) (now (layout .entry) .bound) (now (cells .exit)) m) ⌝ }
 {
-    for height in 0..16u8 {
+    for level in 0..16u8 {
         for a in 0..g.nonterminals() {
-            if g.level(a) == height {
+            if g.level(a) == level {
                 if !fill_nonterminal(g, layout, cells, a, m) {
                     return false;
                 }
@@ -183,16 +183,16 @@ fn fill_rest<G: Grammar>(g: &G, layout: &Layout, cells: &mut [u64], s: u8, m: us
     requires room { ⌜ Room (meaning (now g)) (now layout .bound) (now cells) ⌝ }
     requires short { ⌜ m ≤ now layout .bound ⌝ }
     requires inside { ⌜ s < meaning (now g) .slots ⌝ }
-    requires below { ⌜ Right-below (meaning (now g)) (now layout .bound) (now cells) m ⌝ }
-    requires fronts { ⌜ All-done (meaning (now g)) (now layout .bound) (now cells) m ⌝ }
+    requires below { ⌜ Correct-below (meaning (now g)) (now layout .bound) (now cells) m ⌝ }
+    requires prefixes { ⌜ All-done (meaning (now g)) (now layout .bound) (now cells) m ⌝ }
     ensures keeps { λ _. ⌜ Keeps (meaning (now (g .entry))) (now (layout .entry) .bound) (now (cells .entry)) (now (cells .exit)) ⌝ }
-    ensures done { λ r. ⌜ Unless-over r (meaning (now (g .entry))) m ((q : ℕ) → q < length (right-of (meaning (now (g .entry)) .slot s)) → Right (meaning (now (g .entry))) (now (layout .entry) .bound) (now (cells .exit)) (Row.Suffix s q) m) ⌝ }
+    ensures done { λ r. ⌜ Unless-over r (meaning (now (g .entry))) m ((q : ℕ) → q < length (right-of (meaning (now (g .entry)) .slot s)) → Correct (meaning (now (g .entry))) (now (layout .entry) .bound) (now (cells .exit)) (Row.Suffix s q) m) ⌝ }
 {
     let n = g.length(s);
     if n == 0 {
         return true;
     }
-    let end = front_end(g, layout, cells, s);
+    let end = prefix_end(g, layout, cells, s);
     fill_suffixes(g, layout, cells, s, end + 1, n, m)
 }
 
@@ -201,10 +201,10 @@ fn fill_rests<G: Grammar>(g: &G, layout: &Layout, cells: &mut [u64], m: usize) -
     requires laid { ⌜ Laid (meaning (now g)) (now layout .bound) (now layout) ⌝ }
     requires room { ⌜ Room (meaning (now g)) (now layout .bound) (now cells) ⌝ }
     requires short { ⌜ m ≤ now layout .bound ⌝ }
-    requires below { ⌜ Right-below (meaning (now g)) (now layout .bound) (now cells) m ⌝ }
-    requires fronts { ⌜ All-done (meaning (now g)) (now layout .bound) (now cells) m ⌝ }
+    requires below { ⌜ Correct-below (meaning (now g)) (now layout .bound) (now cells) m ⌝ }
+    requires prefixes { ⌜ All-done (meaning (now g)) (now layout .bound) (now cells) m ⌝ }
     ensures keeps { λ _. ⌜ Keeps (meaning (now (g .entry))) (now (layout .entry) .bound) (now (cells .entry)) (now (cells .exit)) ⌝ }
-    ensures done { λ r. ⌜ Unless-over r (meaning (now (g .entry))) m ((s q : ℕ) → Row-of (meaning (now (g .entry))) (Row.Suffix s q) → Right (meaning (now (g .entry))) (now (layout .entry) .bound) (now (cells .exit)) (Row.Suffix s q) m) ⌝ }
+    ensures done { λ r. ⌜ Unless-over r (meaning (now (g .entry))) m ((s q : ℕ) → Row-of (meaning (now (g .entry))) (Row.Suffix s q) → Correct (meaning (now (g .entry))) (now (layout .entry) .bound) (now (cells .exit)) (Row.Suffix s q) m) ⌝ }
 {
     for s in 0..g.slots() {
         if !fill_rest(g, layout, cells, s, m) {
@@ -219,9 +219,9 @@ pub(crate) fn fill_length<G: Grammar>(g: &G, layout: &Layout, cells: &mut [u64],
     requires laid { ⌜ Laid (meaning (now g)) (now layout .bound) (now layout) ⌝ }
     requires room { ⌜ Room (meaning (now g)) (now layout .bound) (now cells) ⌝ }
     requires short { ⌜ m ≤ now layout .bound ⌝ }
-    requires below { ⌜ Right-below (meaning (now g)) (now layout .bound) (now cells) m ⌝ }
+    requires below { ⌜ Correct-below (meaning (now g)) (now layout .bound) (now cells) m ⌝ }
     ensures keeps { λ _. ⌜ Keeps (meaning (now (g .entry))) (now (layout .entry) .bound) (now (cells .entry)) (now (cells .exit)) ⌝ }
-    ensures done { λ r. ⌜ Unless-over r (meaning (now (g .entry))) m (Right-below (meaning (now (g .entry))) (now (layout .entry) .bound) (now (cells .exit)) (m + 1)) ⌝ }
+    ensures done { λ r. ⌜ Unless-over r (meaning (now (g .entry))) m (Correct-below (meaning (now (g .entry))) (now (layout .entry) .bound) (now (cells .exit)) (m + 1)) ⌝ }
 {
     fill_nonterminals(g, layout, cells, m) && fill_rests(g, layout, cells, m)
 }

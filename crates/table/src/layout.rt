@@ -10,22 +10,22 @@ use grammar::Grammar;
 pub(crate) struct Layout {
     pub(crate) bound: usize,
     pub(crate) rows: usize,
-    pub(crate) starts: [usize; 64],
+    pub(crate) offsets: [usize; 64],
 }
 
 /// The layout of the table of `g` for `bound`.
 pub(crate) fn lay_out<G: Grammar>(g: &G, bound: usize) -> Layout
     ensures { λ r. ⌜ Laid (meaning (now (g .entry))) bound r ⌝ }
 {
-    let mut starts = [0; 64];
+    let mut offsets = [0; 64];
     let mut rows = g.nonterminals() as usize;
     for s in 0..g.slots() {
-        starts[s as usize] = rows;
+        offsets[s as usize] = rows;
         rows += g.length(s) as usize;
     }
     Layout {
         bound,
         rows,
-        starts,
+        offsets,
     }
 }

@@ -5,7 +5,6 @@
 
 ghost use mathlib.Core.Path.{_≡_};
 ghost use Prim.Native.Nat.{ℕ};
-ghost use denote.Ref.{name};
 ghost use lib.ListN.{length};
 ghost use Rattle.std.specs.Results.{Cases};
 ghost use Rattle.table.specs.Rows.{needed, Room};
@@ -27,7 +26,7 @@ mod layout;
 mod sums;
 
 /// The greatest bound of a table.
-pub const LONGEST: usize = 48;
+pub const GREATEST_BOUND: usize = 48;
 
 /// What a row of a table counts: a nonterminal, or a suffix, the right-hand side of a slot from a position on.
 #[derive(Clone, Copy)]
@@ -36,17 +35,18 @@ pub enum Row {
     Suffix { slot: u8, position: u8 },
 }
 
-/// A table: its bound, the greatest length that it has, and the cells that the caller lends for it.
+/// A table: the cells that the caller lends for it, and its bound, the greatest length that it has.
+#[derive(Drop)]
 pub struct Table<'a> {
-    pub bound: usize,
     pub cells: &'a mut [u64],
+    pub bound: usize,
 }
 
 // The layout of the table of `g`, if its bound is at most 48 and it has cells enough.
 fn room<G: Grammar>(g: &G, bound: usize, cells: usize) -> Result<Layout, Fault>
     ensures { λ r. ⌜ Cases r (Has-room (meaning (now (g .entry))) bound cells) (No-room (meaning (now (g .entry))) bound cells) ⌝ }
 {
-    if bound > LONGEST {
+    if bound > GREATEST_BOUND {
         return Err(Fault::TooLong(bound as u64));
     }
     let layout = lay_out(g, bound);
@@ -70,16 +70,15 @@ pub fn needed_cells<G: Grammar>(g: &G, table: &Table<'_>) -> Result<usize, Fault
 ///
 /// Fault 9 if the bound is above 48, place the bound; 10 if there are too few cells, place 1; 11 if a count passes 2^63 - 1, place the smallest such length.
 /// After 11 the needed cells are 0; after 9 and 10 all stand. The cells past the needed ones always stand.
-pub fn count<G: Grammar>(g: &G, table: &mut Table<'_>) -> Result<(), Fault>
-    ensures ended { λ r. ⌜ Cases r (λ _. Counted (meaning (now (g .entry))) (now (table .entry) .bound) (now (now (table .entry) .cells)) (now (now (table .exit) .cells))) (Count-refused (meaning (now (g .entry))) (now (table .entry) .bound) (now (now (table .entry) .cells)) (now (now (table .exit) .cells))) ⌝ }
-    ensures bound { λ _. ⌜ now (table .exit) .bound ≡ now (table .entry) .bound ⌝ }
-    ensures lent { λ _. ⌜ name (now (table .exit) .cells) ≡ name (now (table .entry) .cells) ⌝ }
+pub fn count<G: Grammar>(g: &G, table: Table<'_>) -> Result<(), Fault>
+    ensures { λ r. ⌜ Cases r (λ _. Counted (meaning (now (g .entry))) (table .entry .bound) (now (table .entry .cells)) (now (table .exit .0))) (Count-refused (meaning (now (g .entry))) (table .entry .bound) (now (table .entry .cells)) (now (table .exit .0))) ⌝ }
 {
-    let layout = room(g, table.bound, table.cells.len())?;
-    match count_cells(g, &layout, table.cells) {
-        Ok(()) => Ok(()),
-        Err(m) => Err(Fault::CountTooLarge(m as u64)),
+    let Table { cells, bound } = table;
+    let layout = room(g, bound, cells.len())?;
+    if let Err(m) = count_cells(g, &layout, cells) {
+        return Err(Fault::CountTooLarge(m as u64));
     }
+    Ok(())
 }
 
 /// Whether every needed cell obeys its equation, which is so exactly if the table is sound.

@@ -2,4 +2,4 @@ use Rattle.grammar.proofs.Derived.{outside-is-none}
 use Rattle.grammar.proofs.outside_is_none.Needs as need
 
 pub returns : need.returns
-returns g c = outside-is-none (g .G·Grammar·met .shows (c .args .g .now))
+returns g c = outside-is-none (g .G·Grammar·met .implements (c .args .g .now))

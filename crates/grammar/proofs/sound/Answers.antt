@@ -1,4 +1,4 @@
 use Rattle.grammar.proofs.sound.Needs as need
 
 pub returns : need.returns
-returns g c = let s = g .G·Grammar·met .shows (c .args .g .now) in record { limits = s .limits; sound = s .sound }
+returns g c = let s = g .G·Grammar·met .implements (c .args .g .now) in record { limits = s .limits; sound = s .sound }

@@ -15,7 +15,7 @@ returns-in-Break-layout g c =
 pub returns-in-None : need.returns-in-None
 returns-in-None g c =
     let G = g .G·Grammar .meaning (c .args .g .now) in
-    let f = g .G·Grammar·met .shows (c .args .g .now) in
+    let f = g .G·Grammar·met .implements (c .args .g .now) in
     let r = c .in-Continue-layout .ensures tt in (
       record { small = r .small; enough = r .enough },
       obey-sound (ll1-of f) (subst (λ (L : ℕ). All-obey G L (c .args .table .now .cells .now)) (r .laid .bound) (c .in-None .ensures tt)),

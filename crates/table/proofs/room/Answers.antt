@@ -5,12 +5,12 @@ use Rattle.table.specs.Calls.{too-long, short-cells}
 use Rattle.table.proofs.Rows.{rows-few, row-product}
 use Rattle.table.proofs.room.Needs as need
 
-pub returns-then-bound-gt-LONGEST : need.returns-then-bound-gt-LONGEST
-returns-then-bound-gt-LONGEST g c = too-long (c .if-bound-gt-LONGEST .taken)
+pub returns-then-bound-gt-GREATEST-BOUND : need.returns-then-bound-gt-GREATEST-BOUND
+returns-then-bound-gt-GREATEST-BOUND g c = too-long (c .if-bound-gt-GREATEST-BOUND .taken)
 
 pub mul-layout : need.mul-layout
 mul-layout g c =
-    let f = g .G·Grammar·met .shows (c .args .g .now) in
+    let f = g .G·Grammar·met .implements (c .args .g .now) in
     omega (arith, row-product (c .args .bound) (c .lay-out-layout .result .rows) (omega (arith, rows-few (f .limits), c .lay-out-layout .ensures .rows)) (omega arith))
 
 pub returns-then-layout-bound : need.returns-then-layout-bound

@@ -1,5 +1,5 @@
-use Rattle.brackets.proofs.Facts.{bracket-shows}
+use Rattle.brackets.proofs.Facts.{bracket-implements}
 use Rattle.brackets.proofs.BracketsGrammar.the-impl.Needs as need
 
-pub shows-law : need.shows-law
-shows-law s = bracket-shows (s .kinds) (s .allowed .0) (s .allowed .1)
+pub implements-law : need.implements-law
+implements-law s = bracket-implements (s .kinds) (s .allowed .0) (s .allowed .1)

@@ -7,13 +7,13 @@ use Rattle.table.proofs.checking.check_row.Needs as need
 
 pub cell-held-requires : need.cell-held-requires
 cell-held-requires g c κs =
-    let f = g .G·Grammar·met .shows (c .args .g .now) in
+    let f = g .G·Grammar·met .implements (c .args .g .now) in
     let low = row-small (f .limits) (c .pre .stands) in
     (c .pre .room .small, (omega arith, (omega arith, row-cell (c .pre .room) (c .pre .stands) (c .loop-m .m) (omega arith))))
 
 pub sum-of-requires : need.sum-of-requires
 sum-of-requires g c κs =
-    let f = g .G·Grammar·met .shows (c .args .g .now) in
+    let f = g .G·Grammar·met .implements (c .args .g .now) in
     record {
       laid = c .pre .laid;
       room = c .pre .room;
@@ -23,20 +23,20 @@ sum-of-requires g c κs =
 
 pub cell-number-requires : need.cell-number-requires
 cell-number-requires g c κs =
-    let f = g .G·Grammar·met .shows (c .args .g .now) in
+    let f = g .G·Grammar·met .implements (c .args .g .now) in
     let low = row-small (f .limits) (c .pre .stands) in
     (c .pre .room .small, (omega arith, omega arith))
 
 pub returns-then-not-agrees : need.returns-then-not-agrees
 returns-then-not-agrees g c =
-    let f = g .G·Grammar·met .shows (c .args .g .now) in
+    let f = g .G·Grammar·met .implements (c .args .g .now) in
     row-broken (c .pre .stands) (c .loop-m .m) _ _ (c .cell-held .result) (c .sum-of .result) (omega arith) (c .loop-m .inv) (c .cell-number .ensures) (c .sum-of .ensures)
     (read-is (f .limits) (c .args .layout .now .bound) (c .args .cells .now) (c .terms-of-terms .result) (c .pre .stands) (c .terms-of-terms .ensures) (c .loop-m .m))
     (c .cell-held .ensures) (sym (c .if-not-agrees .ensures tt))
 
 pub loop-m-again : need.loop-m-again
 loop-m-again g c =
-    let f = g .G·Grammar·met .shows (c .args .g .now) in
+    let f = g .G·Grammar·met .implements (c .args .g .now) in
     row-agrees (c .pre .stands) (c .loop-m .m) _ (c .cell-held .result) (c .sum-of .result) (omega arith) (c .loop-m .inv) (c .sum-of .ensures)
     (read-is (f .limits) (c .args .layout .now .bound) (c .args .cells .now) (c .terms-of-terms .result) (c .pre .stands) (c .terms-of-terms .ensures) (c .loop-m .m))
     (c .cell-held .ensures) (sym (c .if-not-agrees .ensures tt))

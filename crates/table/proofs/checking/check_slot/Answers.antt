@@ -9,13 +9,13 @@ use Rattle.table.proofs.checking.check_slot.Needs as need
 pub loop-position-holds : need.loop-position-holds
 loop-position-holds g c =
     let G = g .G·Grammar .meaning (c .args .g .now) in
-    let e = c .pre .laid .starts (c .args .s) (c .pre .inside) in
+    let e = c .pre .laid .offsets (c .args .s) (c .pre .inside) in
     (omega arith, subst (λ (r : ℕ). Obey-below G (c .args .layout .now .bound) (c .args .cells .now) (place (c .args .layout .now .bound) r 0)) (sym e) (c .pre .below))
 
 pub add-at : need.add-at
 add-at g c =
     let G = g .G·Grammar .meaning (c .args .g .now) in
-    let f = g .G·Grammar·met .shows (c .args .g .now) in
+    let f = g .G·Grammar·met .implements (c .args .g .now) in
     omega (arith, rows-few (f .limits), first-row-le G (c .args .s) (G .slots) (omega arith), c .loop-position .inv .0, c .length-position-end .ok)
 
 pub returns : need.returns

@@ -2,7 +2,7 @@ use mathlib.Core.Path.{_≡_, sym, subst, _∙_}
 use mathlib.Core.List.{List}
 use Prim.Native.Nat.{ℕ, _^_, _≤_, _<_}
 use native.Mathlib.Omega.{arith}
-use Rattle.table.specs.Filling.{Keeps, Right}
+use Rattle.table.specs.Filling.{Keeps, Correct}
 use Rattle.table.proofs.Rows.{row-small, row-cell}
 use Rattle.table.proofs.RowTerms.{read-is, read-rows}
 use Rattle.table.proofs.Fills.{keeps-all, put-right, put-keeps}
@@ -10,7 +10,7 @@ use Rattle.table.proofs.filling.fill.Needs as need
 
 pub sum-of-requires : need.sum-of-requires
 sum-of-requires g c κs =
-    let f = g .G·Grammar·met .shows (c .args .g .now) in
+    let f = g .G·Grammar·met .implements (c .args .g .now) in
     record {
       laid = c .pre .laid;
       room = c .pre .room;
@@ -20,13 +20,13 @@ sum-of-requires g c κs =
 
 pub put-requires : need.put-requires
 put-requires g c κs =
-    let f = g .G·Grammar·met .shows (c .args .g .now) in
+    let f = g .G·Grammar·met .implements (c .args .g .now) in
     let few = row-small (f .limits) (c .pre .stands) in
     (c .pre .room .small, (omega arith, (c .pre .short, row-cell (c .pre .room) (c .pre .stands) (c .args .m) (c .pre .short))))
 
 pub returns-in-rest : need.returns-in-rest
 returns-in-rest g c =
-    let f = g .G·Grammar·met .shows (c .args .g .now) in
+    let f = g .G·Grammar·met .implements (c .args .g .now) in
     let is = read-is (f .limits) (c .args .layout .now .bound) (c .args .cells .now) (c .terms-of-terms .result) (c .pre .stands) (c .terms-of-terms .ensures) (c .args .m) in
     record {
       keeps = keeps-all;
@@ -36,11 +36,11 @@ returns-in-rest g c =
 pub returns : need.returns
 returns g c =
     let G = g .G·Grammar .meaning (c .args .g .now) in
-    let f = g .G·Grammar·met .shows (c .args .g .now) in
+    let f = g .G·Grammar·met .implements (c .args .g .now) in
     let got = c .in-Some .ensures tt in
     let is = read-is (f .limits) (c .args .layout .now .bound) (c .args .cells .now) (c .terms-of-terms .result) (c .pre .stands) (c .terms-of-terms .ensures) (c .args .m) ∙ c .pre .due in
     let low = subst (λ (n : ℕ). n < 2 ^ 63) is (got .1) in
     record {
       keeps = subst (λ (u : List ℕ). Keeps G (c .args .layout .now .bound) (c .args .cells .now) u) (sym (c .put .ensures)) (put-keeps (c .pre .room) (c .pre .stands) (c .args .m) (c .in-Some .value) (c .pre .short) (got .0 ∙ is) low);
-      done = subst (λ (u : List ℕ). Right G (c .args .layout .now .bound) u (c .args .row) (c .args .m)) (sym (c .put .ensures)) (put-right (c .pre .room) (c .pre .stands) (c .args .m) (c .in-Some .value) (c .pre .short) (got .0 ∙ is) low);
+      done = subst (λ (u : List ℕ). Correct G (c .args .layout .now .bound) u (c .args .row) (c .args .m)) (sym (c .put .ensures)) (put-right (c .pre .room) (c .pre .stands) (c .args .m) (c .in-Some .value) (c .pre .short) (got .0 ∙ is) low);
     }

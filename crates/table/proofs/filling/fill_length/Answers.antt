@@ -10,7 +10,7 @@ fill-rests-requires g c κs =
       room = keeps-room (got .keeps) (c .pre .room);
       short = c .pre .short;
       below = keeps-below (got .keeps) (omega arith) (c .pre .below);
-      fronts = got .done;
+      prefixes = got .done;
     }
 
 pub returns-then-fill-nonterminals : need.returns-then-fill-nonterminals

@@ -3,14 +3,14 @@ use Prim.Native.Nat.{ℕ, _+_, _≤_, _<_}
 use native.Mathlib.Omega.{arith}
 use borrow.Author.Count.{below-more}
 use Rattle.grammar.proofs.Derived.{ll1-of}
-use Rattle.table.specs.Filling.{Front-right-of}
+use Rattle.table.specs.Filling.{Prefix-correct-of}
 use Rattle.table.specs.declared.Row.the-variants.{Nonterminal, Suffix}
-use Rattle.table.proofs.Fills.{keeps-all, keeps-on, keeps-room, keeps-below, keeps-front, done-more}
+use Rattle.table.proofs.Fills.{keeps-all, keeps-on, keeps-room, keeps-below, keeps-prefix, done-more}
 use Rattle.table.proofs.Due.{nonterminal-due}
 use Rattle.table.proofs.filling.fill_nonterminal.Needs as need
 
-pub fill-front-requires : need.fill-front-requires
-fill-front-requires g c κs =
+pub fill-prefix-requires : need.fill-prefix-requires
+fill-prefix-requires g c κs =
     let k = c .loop-s .inv .0 in
     record {
       laid = c .pre .laid;
@@ -21,22 +21,22 @@ fill-front-requires g c κs =
       corners = λ B l e. k .still (Nonterminal B) (c .args .m) l (c .pre .short) (c .pre .corners B l e);
     }
 
-pub returns-then-not-fill-front : need.returns-then-not-fill-front
-returns-then-not-fill-front g c = let got = c .if-not-fill-front .ensures tt in record { keeps = keeps-on (c .loop-s .inv .0) (got .keeps); done = got .done }
+pub returns-then-not-fill-prefix : need.returns-then-not-fill-prefix
+returns-then-not-fill-prefix g c = let got = c .if-not-fill-prefix .ensures tt in record { keeps = keeps-on (c .loop-s .inv .0) (got .keeps); done = got .done }
 
 pub loop-s-again : need.loop-s-again
 loop-s-again g c =
     let G = g .G·Grammar .meaning (c .args .g .now) in
-    let got = c .if-not-fill-front .ensures tt in (
+    let got = c .if-not-fill-prefix .ensures tt in (
       keeps-on (c .loop-s .inv .0) (got .keeps),
-      below-more (Front-right-of G (c .args .layout .now .bound) (c .fill-front .last .cells) (c .args .a) (c .args .m)) (c .loop-s .s)
-          (λ q l. keeps-front (got .keeps) (c .pre .short) (omega arith) (c .loop-s .inv .1 q l))
+      below-more (Prefix-correct-of G (c .args .layout .now .bound) (c .fill-prefix .last .cells) (c .args .a) (c .args .m)) (c .loop-s .s)
+          (λ q l. keeps-prefix (got .keeps) (c .pre .short) (omega arith) (c .loop-s .inv .1 q l))
           (got .done),
     )
 
 pub fill-requires : need.fill-requires
 fill-requires g c κs =
-    let f = g .G·Grammar·met .shows (c .args .g .now) in
+    let f = g .G·Grammar·met .implements (c .args .g .now) in
     record {
       laid = c .pre .laid;
       room = keeps-room (c .loop-s .inv .0) (c .pre .room);

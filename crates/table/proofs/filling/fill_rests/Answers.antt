@@ -4,7 +4,7 @@ use native.Mathlib.Omega.{arith}
 use lib.ListN.{length}
 use borrow.Author.Count.{below-more}
 use Rattle.theory.specs.Count.{right-of}
-use Rattle.table.specs.Filling.{Right}
+use Rattle.table.specs.Filling.{Correct}
 use Rattle.table.specs.declared.Row.the-variants.{Suffix}
 use Rattle.table.proofs.Fills.{keeps-all, keeps-on, keeps-room, keeps-below, keeps-done}
 use Rattle.table.proofs.filling.fill_rests.Needs as need
@@ -18,7 +18,7 @@ fill-rest-requires g c κs =
       short = c .pre .short;
       inside = omega arith;
       below = keeps-below k (omega arith) (c .pre .below);
-      fronts = λ A l. keeps-done k (c .pre .short) l (c .pre .fronts A l);
+      prefixes = λ A l. keeps-done k (c .pre .short) l (c .pre .prefixes A l);
     }
 
 pub returns-then-not-fill-rest : need.returns-then-not-fill-rest
@@ -29,7 +29,7 @@ loop-s-again g c =
     let G = g .G·Grammar .meaning (c .args .g .now) in
     let got = c .if-not-fill-rest .ensures tt in (
       keeps-on (c .loop-s .inv .0) (got .keeps),
-      below-more (λ s. (q : ℕ) → q < length (right-of (G .slot s)) → Right G (c .args .layout .now .bound) (c .fill-rest .last .cells) (Suffix s q) (c .args .m)) (c .loop-s .s)
+      below-more (λ s. (q : ℕ) → q < length (right-of (G .slot s)) → Correct G (c .args .layout .now .bound) (c .fill-rest .last .cells) (Suffix s q) (c .args .m)) (c .loop-s .s)
           (λ s l q o. got .keeps .still (Suffix s q) (c .args .m) (omega arith, o) (c .pre .short) (c .loop-s .inv .1 s l q o))
           (got .done),
     )

@@ -13,16 +13,16 @@ loop-s-holds g c = (c .nonterminals-rows .ensures ∙ sym (first-row-none _), re
 pub add-rows : need.add-rows
 add-rows g c =
     let G = g .G·Grammar .meaning (c .args .g .now) in
-    let f = g .G·Grammar·met .shows (c .args .g .now) in
+    let f = g .G·Grammar·met .implements (c .args .g .now) in
     omega (arith, rows-few (f .limits), first-row-le G (c .loop-s .s) (G .slots) (omega arith), c .length .ok)
 
 pub loop-s-again : need.loop-s-again
 loop-s-again g c =
     let G = g .G·Grammar .meaning (c .args .g .now) in
-    let f = g .G·Grammar·met .shows (c .args .g .now) in (
+    let f = g .G·Grammar·met .implements (c .args .g .now) in (
       omega (arith, first-row-more G (c .loop-s .s)),
-      length-set (c .loop-s .starts) (c .loop-s .s) (c .loop-s .rows) ∙ c .loop-s .inv .1,
-      below-set (λ q v. v ≡ first-row G q) (c .loop-s .starts) (c .loop-s .s) (c .loop-s .rows) (omega (arith, f .limits .slots-high)) (c .loop-s .inv .2) (c .loop-s .inv .0),
+      length-set (c .loop-s .offsets) (c .loop-s .s) (c .loop-s .rows) ∙ c .loop-s .inv .1,
+      below-set (λ q v. v ≡ first-row G q) (c .loop-s .offsets) (c .loop-s .s) (c .loop-s .rows) (omega (arith, f .limits .slots-high)) (c .loop-s .inv .2) (c .loop-s .inv .0),
     )
 
 pub returns : need.returns
@@ -32,5 +32,5 @@ returns g c =
     record {
       bound = refl;
       rows = c .loop-s .inv .0 ∙ ap (first-row G) e;
-      starts = λ s l. c .loop-s .inv .2 s (omega arith);
+      offsets = λ s l. c .loop-s .inv .2 s (omega arith);
     }

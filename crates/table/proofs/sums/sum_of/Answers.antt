@@ -9,7 +9,7 @@ use Rattle.table.proofs.sums.sum_of.Needs as need
 pub suffix-sum-requires : need.suffix-sum-requires
 suffix-sum-requires g c κs =
     let G = g .G·Grammar .meaning (c .args .g .now) in
-    let f = g .G·Grammar·met .shows (c .args .g .now) in
+    let f = g .G·Grammar·met .implements (c .args .g .now) in
     let h = subst (λ (x : Terms). Terms-row G x (c .args .at)) (c .in-Split .is) (c .pre .row) in
     record {
       small = (c .pre .room .small, (omega (arith, rows-few (f .limits), h .0), c .pre .short));

@@ -14,6 +14,6 @@ unreachable-requires g c κs =
 pub add-empty : need.add-empty
 add-empty g c =
     let G = g .G·Grammar .meaning (c .args .g .now) in
-    let f = g .G·Grammar·met .shows (c .args .g .now) in
+    let f = g .G·Grammar·met .implements (c .args .g .now) in
     let h = subst (λ (ρ : Row). Row-of G ρ) (c .in-Suffix .is) (c .pre) in
     omega (arith, side-six (f .limits) (c .in-Suffix .slot), h .1)

@@ -1,6 +1,6 @@
-use Rattle.layers.proofs.Fewer.{restricted-shows}
+use Rattle.layers.proofs.Fewer.{restricted-implements}
 use Rattle.layers.proofs.restriction.RestrictionGrammar.the-impl.Needs as need
 
-pub shows-law : need.shows-law
-shows-law g s =
-    restricted-shows (g .G·Grammar .meaning (s .below)) (s .mask) (g .G·Grammar .chosen (s .below)) (g .G·Grammar .levels (s .below)) (g .G·Grammar·met .shows (s .below))
+pub implements-law : need.implements-law
+implements-law g s =
+    restricted-implements (g .G·Grammar .meaning (s .below)) (s .mask) (g .G·Grammar .chosen (s .below)) (g .G·Grammar .levels (s .below)) (g .G·Grammar·met .implements (s .below))

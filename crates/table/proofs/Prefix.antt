@@ -22,7 +22,7 @@ use Rattle.theory.proofs.Listing.{computed-count}
 use Rattle.grammar.specs.Interface.{byte-at}
 use Rattle.table.specs.Rows.{cell-at}
 use Rattle.table.specs.Terms.{byte-count}
-use Rattle.table.specs.Filling.{Right, Right-below, Keeps, Unless-over, Firsts-right, Needs-no-rest, Corners-right, Leaders-right, Front-right-of, All-done, Done}
+use Rattle.table.specs.Filling.{Correct, Correct-below, Keeps, Unless-over, Firsts-correct, Needs-no-rest, Corners-correct, Leading-correct, Prefix-correct-of, All-done, Done}
 use Rattle.table.specs.declared.Row.the-variants.{Nonterminal, Suffix}
 use Rattle.table.proofs.Sides.{drop-next, nonterminal-known, Symbol-at, symbol-at, is-terminal, is-nonterminal}
 
@@ -60,9 +60,9 @@ within-nullable {G} (Y ∷ Ys) (suc p) zero X Xs n e l =
     first-nullable (subst (λ (Z : Symbol). Nullable G (Z ∷ take p Ys)) i n)
 within-nullable (Y ∷ Ys) (suc p) (suc q) X Xs (next s Zs r o n) e l = within-nullable Ys p q X Xs n e (omega arith)
 
--- the front of a right-hand side ends where the rest is not needed
-pub front-within : {G : CFG} {level : ℕ → ℕ} → LL1 G level → (Ys : List Symbol) (p q : ℕ) → q < length Ys → Needs-no-rest G Ys q → p < length Ys → Nullable G (take p Ys) → p ≤ q
-front-within {G} ll Ys p q lq last lp n =
+-- the prefix of a right-hand side ends where the rest is not needed
+pub prefix-within : {G : CFG} {level : ℕ → ℕ} → LL1 G level → (Ys : List Symbol) (p q : ℕ) → q < length Ys → Needs-no-rest G Ys q → p < length Ys → Nullable G (take p Ys) → p ≤ q
+prefix-within {G} ll Ys p q lq last lp n =
     ⊎-elim (λ o. absurd (over o)) (λ o. o) (cases-lt q p)
   where
     at : (Zs : List Symbol) (k : ℕ) → k < length Zs → (X : Symbol) × (Xs : List Symbol) × (drop k Zs ≡ X ∷ Xs)
@@ -84,10 +84,10 @@ pub end-last : (G : CFG) (Ys : List Symbol) (p : ℕ) → length Ys ≤ p + 1 �
 end-last G Ys p h X Xs d = let n = drop-next Ys p X Xs d in inl (nil-from-length Xs (omega arith))
 
 -- behind nullable symbols only, the nonterminals are right
-pub firsts-of : (G : CFG) (L : ℕ) (t : List ℕ) (Ys : List Symbol) (r m : ℕ) → Nullable G (take r Ys) → Leaders-right G L t Ys m → Firsts-right G L t Ys (r + 1) m
+pub firsts-of : (G : CFG) (L : ℕ) (t : List ℕ) (Ys : List Symbol) (r m : ℕ) → Nullable G (take r Ys) → Leading-correct G L t Ys m → Firsts-correct G L t Ys (r + 1) m
 firsts-of G L t Ys r m v h q B Xs l e = h q B Xs (subst (λ (u : List Symbol). Nullable G u) (take-take q r Ys (omega arith)) (nullable-take v q)) e
 
-pub leaders-of : {G : CFG} {L : ℕ} {t : List ℕ} → Limits G → (A m s : ℕ) → Corners-right G L t A m → left-of (G .slot s) ≡ Some A → Leaders-right G L t (right-of (G .slot s)) m
+pub leaders-of : {G : CFG} {L : ℕ} {t : List ℕ} → Limits G → (A m s : ℕ) → Corners-correct G L t A m → left-of (G .slot s) ≡ Some A → Leading-correct G L t (right-of (G .slot s)) m
 leaders-of {G} z A m s h e p B Xs v d =
     let w = right-of (G .slot s) in
     let split = sym (take-append-drop p w) ∙ ap (λ (u : List Symbol). take p w ++ u) d in
@@ -95,14 +95,14 @@ leaders-of {G} z A m s h e p B Xs v d =
     (record { slot = s; side = w; holds = is-rule (G .slot s) e; leads = subst (λ (u : List Symbol). Leads G u B) (sym split) (leads-at (take p w) Xs B v) })
 
 -- at length 0 they are right too, by the lengths before or as they are
-pub leaders-zero : {G : CFG} {L : ℕ} {t : List ℕ} {m : ℕ} → Limits G → Right-below G L t m → (s : ℕ) → Leaders-right G L t (right-of (G .slot s)) m → Leaders-right G L t (right-of (G .slot s)) 0
+pub leaders-zero : {G : CFG} {L : ℕ} {t : List ℕ} {m : ℕ} → Limits G → Correct-below G L t m → (s : ℕ) → Leading-correct G L t (right-of (G .slot s)) m → Leading-correct G L t (right-of (G .slot s)) 0
 leaders-zero {G} {L} {t} {m} z below s h p B Xs v d =
-    ⊎-elim (λ (e : m ≡ 0). subst (λ (x : ℕ). Right G L t (Nonterminal B) x) e (h p B Xs v d))
+    ⊎-elim (λ (e : m ≡ 0). subst (λ (x : ℕ). Correct G L t (Nonterminal B) x) e (h p B Xs v d))
     (λ ne. below (Nonterminal B) 0 (nonterminal-known z s p B Xs d) (omega arith))
     (cases-eq m 0)
 
-module _ {G : CFG} (L : ℕ) (t : List ℕ) (z : Limits G) (s p b : ℕ) (before : Nullable G (take p (right-of (G .slot s)))) (leaders : Leaders-right G L t (right-of (G .slot s)) 0) (is : Some b ≡ byte-at (right-of (G .slot s)) p) where
-  -- a terminal ends the front
+module _ {G : CFG} (L : ℕ) (t : List ℕ) (z : Limits G) (s p b : ℕ) (before : Nullable G (take p (right-of (G .slot s)))) (leaders : Leading-correct G L t (right-of (G .slot s)) 0) (is : Some b ≡ byte-at (right-of (G .slot s)) p) where
+  -- a terminal ends the prefix
   terminal-ends : b < 128 → Needs-no-rest G (right-of (G .slot s)) p
   terminal-ends l X Xs d =
       let i = symbol-at (right-of (G .slot s)) p b is in
@@ -139,53 +139,53 @@ module _ {G : CFG} (L : ℕ) (t : List ℕ) (z : Limits G) (s p b : ℕ) (before
           go (Z ∷ Zs) zero h = let j : Z ≡ X = cc in ap (λ (Y : Symbol). Y ∷ []) j
           go (Z ∷ Zs) (suc k) h = ap {B = List Symbol} (λ (u : List Symbol). Z ∷ u) (go Zs k h)
 
-  -- what counts nothing at length 0 ends the front
-  pub front-ends : ltb 0 (byte-count L t b 0) ≡ false → Needs-no-rest G (right-of (G .slot s)) p
-  front-ends e =
+  -- what counts nothing at length 0 ends the prefix
+  pub prefix-ends : ltb 0 (byte-count L t b 0) ≡ false → Needs-no-rest G (right-of (G .slot s)) p
+  prefix-ends e =
       ⊎-elim
       terminal-ends
       (λ l. nonterminal-ends l (let f : byte-count L t b 0 ≡ cell-at L t (b - 128) 0 = rw (le-ltb b 128 l) in omega (arith, f, ltb-false 0 (byte-count L t b 0) e)))
       (cases-lt b 128)
 
   -- and what counts something goes on
-  pub front-more : ltb 0 (byte-count L t b 0) ≡ true → Nullable G (take (p + 1) (right-of (G .slot s)))
-  front-more e =
+  pub prefix-more : ltb 0 (byte-count L t b 0) ≡ true → Nullable G (take (p + 1) (right-of (G .slot s)))
+  prefix-more e =
       ⊎-elim
       (λ l. let f : byte-count L t b 0 ≡ 0 = rw (lt-ltb b 128 l) in absurd (omega (arith, f, ltb-true 0 (byte-count L t b 0) e)))
       (λ l. nonterminal-more l (let f : byte-count L t b 0 ≡ cell-at L t (b - 128) 0 = rw (le-ltb b 128 l) in omega (arith, f, ltb-true 0 (byte-count L t b 0) e)))
       (cases-lt b 128)
 
--- once every nonterminal is done, the nonterminals of a right-hand side and its front are right
-pub done-leaders : {G : CFG} {L : ℕ} {t : List ℕ} {m : ℕ} → Limits G → All-done G L t m → (s : ℕ) → Leaders-right G L t (right-of (G .slot s)) m
+-- once every nonterminal is done, the nonterminals of a right-hand side and its prefix are right
+pub done-leaders : {G : CFG} {L : ℕ} {t : List ℕ} {m : ℕ} → Limits G → All-done G L t m → (s : ℕ) → Leading-correct G L t (right-of (G .slot s)) m
 done-leaders z d s p B Xs v e = d B (nonterminal-known z s p B Xs e) .count
 
-pub done-firsts : {G : CFG} {L : ℕ} {t : List ℕ} {m : ℕ} → Limits G → All-done G L t m → (s p : ℕ) → Firsts-right G L t (right-of (G .slot s)) p m
+pub done-firsts : {G : CFG} {L : ℕ} {t : List ℕ} {m : ℕ} → Limits G → All-done G L t m → (s p : ℕ) → Firsts-correct G L t (right-of (G .slot s)) p m
 done-firsts z d s p q B Xs l e = d B (nonterminal-known z s q B Xs e) .count
 
-pub done-front : {G : CFG} {L : ℕ} {t : List ℕ} {m : ℕ} → Limits G → All-done G L t m → (s : ℕ) → s < G .slots → (p q : ℕ) → q ≤ p
-    → p < length (right-of (G .slot s)) → Nullable G (take p (right-of (G .slot s))) → Right G L t (Suffix s q) m
-done-front {G} {L} {t} {m} z d s i p q o l n = go (G .slot s) refl
+pub done-prefix : {G : CFG} {L : ℕ} {t : List ℕ} {m : ℕ} → Limits G → All-done G L t m → (s : ℕ) → s < G .slots → (p q : ℕ) → q ≤ p
+    → p < length (right-of (G .slot s)) → Nullable G (take p (right-of (G .slot s))) → Correct G L t (Suffix s q) m
+done-prefix {G} {L} {t} {m} z d s i p q o l n = go (G .slot s) refl
   where
     shorter : Nullable G (take q (right-of (G .slot s)))
     shorter = subst (λ (u : List Symbol). Nullable G u) (take-take q p (right-of (G .slot s)) o) (nullable-take n q)
 
-    go : (x : Slot) → G .slot s ≡ x → Right G L t (Suffix s q) m
+    go : (x : Slot) → G .slot s ≡ x → Correct G L t (Suffix s q) m
     go empty e = absurd (omega (arith, ap (λ (y : Slot). length (right-of y)) e))
-    go (rule A Ys) e = d A (z .left-known s A Ys e) .fronts s i (ap left-of e) q (omega arith) shorter
+    go (rule A Ys) e = d A (z .left-known s A Ys e) .prefixes s i (ap left-of e) q (omega arith) shorter
 
--- the front of a slot is right, once its suffixes up to the end of the front are
-pub front-done : {G : CFG} {level : ℕ → ℕ} → LL1 G level → (L : ℕ) (u : List ℕ) (A m : ℕ) (r : Bool) (s e : ℕ) → e < length (right-of (G .slot s)) → Needs-no-rest G (right-of (G .slot s)) e
-    → Unless-over r G m ((q : ℕ) → 0 ≤ q → q < e + 1 → Right G L u (Suffix s q) m) → Unless-over r G m (Front-right-of G L u A m s)
-front-done {G} ll L u A m true s e l last d = λ f p o n. d p (omega arith) (omega (arith, front-within ll (right-of (G .slot s)) p e l last o n))
-front-done ll L u A m false s e l last d = d
+-- the prefix of a slot is right, once its suffixes up to the end of the prefix are
+pub prefix-done : {G : CFG} {level : ℕ → ℕ} → LL1 G level → (L : ℕ) (u : List ℕ) (A m : ℕ) (r : Bool) (s e : ℕ) → e < length (right-of (G .slot s)) → Needs-no-rest G (right-of (G .slot s)) e
+    → Unless-over r G m ((q : ℕ) → 0 ≤ q → q < e + 1 → Correct G L u (Suffix s q) m) → Unless-over r G m (Prefix-correct-of G L u A m s)
+prefix-done {G} ll L u A m true s e l last d = λ f p o n. d p (omega arith) (omega (arith, prefix-within ll (right-of (G .slot s)) p e l last o n))
+prefix-done ll L u A m false s e l last d = d
 
--- all suffixes of a slot are, once those behind the front are too
+-- all suffixes of a slot are, once those behind the prefix are too
 pub rest-done : {G : CFG} {L : ℕ} {t u : List ℕ} {m : ℕ} → Limits G → (r : Bool) (s e n : ℕ) → s < G .slots → m ≤ L → All-done G L t m → Keeps G L t u → e < length (right-of (G .slot s))
-    → Nullable G (take e (right-of (G .slot s))) → n ≡ length (right-of (G .slot s)) → Unless-over r G m ((q : ℕ) → e + 1 ≤ q → q < n → Right G L u (Suffix s q) m)
-    → Unless-over r G m ((q : ℕ) → q < length (right-of (G .slot s)) → Right G L u (Suffix s q) m)
+    → Nullable G (take e (right-of (G .slot s))) → n ≡ length (right-of (G .slot s)) → Unless-over r G m ((q : ℕ) → e + 1 ≤ q → q < n → Correct G L u (Suffix s q) m)
+    → Unless-over r G m ((q : ℕ) → q < length (right-of (G .slot s)) → Correct G L u (Suffix s q) m)
 rest-done {m = m} z true s e n i l a k o v x d = λ q h.
     ⊎-elim
-    (λ b. k .still (Suffix s q) m (i, h) l (done-front z a s i e q (omega arith) o v))
+    (λ b. k .still (Suffix s q) m (i, h) l (done-prefix z a s i e q (omega arith) o v))
     (λ b. d q b (omega arith))
     (cases-lt q (e + 1))
 rest-done z false s e n i l a k o v x d = d

@@ -6,8 +6,8 @@ use Rattle.theory.specs.Sets.{Nullable, none}
 use Rattle.theory.specs.Count.{right-of}
 use Rattle.table.proofs.Sides.{no-byte, symbol-at, is-nonterminal}
 use Rattle.table.proofs.Rows.{cell-inside, nonterminal-row}
-use Rattle.table.proofs.Front.{front-ends, front-more, end-last}
-use Rattle.table.proofs.filling.front_end.Needs as need
+use Rattle.table.proofs.Prefix.{prefix-ends, prefix-more, end-last}
+use Rattle.table.proofs.filling.prefix_end.Needs as need
 
 pub loop-p-holds : need.loop-p-holds
 loop-p-holds g c = none
@@ -18,7 +18,7 @@ unreachable-requires g c κs = no-byte _ (c .loop-p .p) (omega arith) (c .in-res
 pub is-nullable-requires : need.is-nullable-requires
 is-nullable-requires g c κs =
     let G = g .G·Grammar .meaning (c .args .g .now) in
-    let f = g .G·Grammar·met .shows (c .args .g .now) in (
+    let f = g .G·Grammar·met .implements (c .args .g .now) in (
       c .pre .room .small,
       λ l.
           let i = symbol-at (right-of (G .slot (c .args .s))) (c .loop-p .p) (c .in-Some .symbol) (c .in-Some .ensures tt) in
@@ -27,17 +27,17 @@ is-nullable-requires g c κs =
 
 pub returns-then-not-is-nullable : need.returns-then-not-is-nullable
 returns-then-not-is-nullable g c =
-    let f = g .G·Grammar·met .shows (c .args .g .now) in
+    let f = g .G·Grammar·met .implements (c .args .g .now) in
     record {
       far = omega arith;
       before = c .loop-p .inv;
-      last = front-ends (c .args .layout .now .bound) (c .args .cells .now) (f .limits) (c .args .s) (c .loop-p .p) (c .in-Some .symbol) (c .loop-p .inv) (c .pre .leaders) (c .in-Some .ensures tt) (sym (c .if-not-is-nullable .ensures tt));
+      last = prefix-ends (c .args .layout .now .bound) (c .args .cells .now) (f .limits) (c .args .s) (c .loop-p .p) (c .in-Some .symbol) (c .loop-p .inv) (c .pre .leaders) (c .in-Some .ensures tt) (sym (c .if-not-is-nullable .ensures tt));
     }
 
 pub loop-p-again : need.loop-p-again
 loop-p-again g c =
-    let f = g .G·Grammar·met .shows (c .args .g .now) in
-    front-more (c .args .layout .now .bound) (c .args .cells .now) (f .limits) (c .args .s) (c .loop-p .p) (c .in-Some .symbol) (c .loop-p .inv) (c .pre .leaders) (c .in-Some .ensures tt) (sym (c .if-not-is-nullable .ensures tt))
+    let f = g .G·Grammar·met .implements (c .args .g .now) in
+    prefix-more (c .args .layout .now .bound) (c .args .cells .now) (f .limits) (c .args .s) (c .loop-p .p) (c .in-Some .symbol) (c .loop-p .inv) (c .pre .leaders) (c .in-Some .ensures tt) (sym (c .if-not-is-nullable .ensures tt))
 
 pub returns : need.returns
 returns g c =

@@ -1,0 +1,4 @@
+//! The console's work: what each command of a script answers, and what it changes.
+
+pub mod answer;
+pub mod work;

@@ -14,12 +14,11 @@ use Rattle.script.specs.Text.{Numeral, spaced}
 use Rattle.script.specs.Cut.{cut}
 use Rattle.script.specs.Says.{Argument, number, end, text, keyword-of, arguments, Writes, Write-all, Says, Reads}
 use Rattle.script.specs.Shapes.{Refused, shape}
-use Rattle.script.specs.Laws.{One-command}
+use Rattle.script.specs.Laws.{One-command, One-reading}
 use Rattle.script.specs.declared.keyword.Keyword.{Keyword}
 use Rattle.script.specs.declared.keyword.Keyword.the-variants as key
 use Rattle.script.specs.declared.NextWord.{NextWord}
 use Rattle.script.specs.declared.NextWord.the-variants.{Terminal, End}
-use Rattle.script.specs.declared.Line.{Line}
 use Rattle.script.specs.declared.Line.the-variants as line
 use Rattle.script.specs.declared.Command.{Command}
 use Rattle.script.specs.declared.Command.the-variants.{Brackets, Neutral, Restrict, Start, Choice, Level, Memory, Bound, Count, Check, Table, Cell, Flip, Poke}
@@ -165,14 +164,14 @@ one-command bytes c d s t =
     let y = command-is d in
     cc
 
--- a line is read in one way
-pub reads-once : (bytes : List ℕ) (a b : Line) → Reads bytes a → Reads bytes b → a ≡ b
-reads-once bytes line.Blank line.Blank g h = refl
-reads-once bytes line.Blank (line.Command d) g h = absurd (h .0 g)
-reads-once bytes line.Blank line.Unreadable g h = absurd (h .0 g)
-reads-once bytes (line.Command c) line.Blank g h = absurd (g .0 h)
-reads-once bytes (line.Command c) (line.Command d) g h = ap line.Command (one-command bytes c d (g .2) (h .2))
-reads-once bytes (line.Command c) line.Unreadable g h = absurd (h .1 (g .1) c (g .2))
-reads-once bytes line.Unreadable line.Blank g h = absurd (g .0 h)
-reads-once bytes line.Unreadable (line.Command d) g h = absurd (g .1 (h .1) d (h .2))
-reads-once bytes line.Unreadable line.Unreadable g h = refl
+-- no line is read in two ways
+pub one-reading : One-reading
+one-reading bytes line.Blank line.Blank g h = refl
+one-reading bytes line.Blank (line.Command d) g h = absurd (h .0 g)
+one-reading bytes line.Blank line.Unreadable g h = absurd (h .0 g)
+one-reading bytes (line.Command c) line.Blank g h = absurd (g .0 h)
+one-reading bytes (line.Command c) (line.Command d) g h = ap line.Command (one-command bytes c d (g .2) (h .2))
+one-reading bytes (line.Command c) line.Unreadable g h = absurd (h .1 (g .1) c (g .2))
+one-reading bytes line.Unreadable line.Blank g h = absurd (g .0 h)
+one-reading bytes line.Unreadable (line.Command d) g h = absurd (g .1 (h .1) d (h .2))
+one-reading bytes line.Unreadable line.Unreadable g h = refl

@@ -7,11 +7,16 @@ use Rattle.std.specs.Written.{decimal}
 use Rattle.script.specs.Text.{spaced}
 use Rattle.script.specs.Says.{Argument, number, end, text, keyword-of, arguments, Says, Reads}
 use Rattle.script.specs.declared.Command.{Command}
+use Rattle.script.specs.declared.Line.{Line}
 use Rattle.script.specs.declared.Line.the-variants as line
 
 -- no line says two commands
 abbrev pub One-command : Type 0
 One-command = (bytes : List ℕ) (c d : Command) → Says bytes c → Says bytes d → c ≡ d
+
+-- no line is read in two ways
+abbrev pub One-reading : Type 0
+One-reading = (bytes : List ℕ) (a b : Line) → Reads bytes a → Reads bytes b → a ≡ b
 
 -- each number is at most its limit
 abbrev pub Within : List Argument → Type 0

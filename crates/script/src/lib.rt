@@ -24,11 +24,10 @@
 //!
 //! A line that is not blank and says no command, or has more than 1,000,000 bytes, is unreadable.
 
-ghost use Rattle.script.specs.Laws.{Every-command, One-command};
+ghost use Rattle.script.specs.Laws.{Every-command, One-command, One-reading};
 ghost use Rattle.script.specs.Says.{Is-blank, Reads, Says};
 ghost use Rattle.std.specs.Options.{Cases as BySome};
 ghost use Rattle.std.specs.Orderings.{Decides};
-ghost use mathlib.Core.Path.{_≡_};
 
 mod arguments;
 mod keyword;
@@ -122,8 +121,7 @@ fn read_command(text: &[u8]) -> Option<Command>
 
 /// Reads a line, given without its line feed.
 pub fn read_line(line: &[u8]) -> Line
-    ensures reads { λ r. ⌜ Reads (now (line .entry)) r ⌝ }
-    ensures only { λ r. ⌜ ((other : Line) → Reads (now (line .entry)) other → other ≡ r) ⌝ }
+    ensures { λ r. ⌜ Reads (now (line .entry)) r ⌝ }
 {
     if is_blank(line) {
         return Line::Blank;
@@ -137,9 +135,10 @@ pub fn read_line(line: &[u8]) -> Line
     }
 }
 
-/// No line says two commands.
+/// No line says two commands, and no line is read in two ways.
 pub fn line_says_one()
-    ensures { λ _. ⌜ One-command ⌝ }
+    ensures command { λ _. ⌜ One-command ⌝ }
+    ensures reading { λ _. ⌜ One-reading ⌝ }
 {}
 
 /// Each command within its limits is read from a line.

@@ -12,8 +12,14 @@ spaced-append [] ys = refl
 spaced-append (x ∷ xs) ys = ap {B = List ℕ} (λ (t : List ℕ). 32 ∷ (decimal x ++ t)) (spaced-append xs ys) ∙ ap {B = List ℕ} (λ (t : List ℕ). 32 ∷ t) (sym (append-assoc (decimal x) (spaced xs) (spaced ys)))
 
 -- one more number
-pub spaced-more : (xs : List ℕ) (i : ℕ) (front : List ℕ) → i < length xs → front ++ spaced (take (i + 1) xs) ≡ (front ++ spaced (take i xs)) ++ (32 ∷ decimal (getD xs i 0))
+spaced-more : (xs : List ℕ) (i : ℕ) (front : List ℕ) → i < length xs → front ++ spaced (take (i + 1) xs) ≡ (front ++ spaced (take i xs)) ++ (32 ∷ decimal (getD xs i 0))
 spaced-more xs i front l =
     ap {B = List ℕ} (λ (t : List ℕ). front ++ spaced t) (take-more xs i 0 l) ∙ ap {B = List ℕ} (λ (t : List ℕ). front ++ t) (spaced-append (take i xs) (getD xs i 0 ∷ []))
     ∙ sym (append-assoc front (spaced (take i xs)) (32 ∷ (decimal (getD xs i 0) ++ [])))
     ∙ ap {B = List ℕ} (λ (t : List ℕ). (front ++ spaced (take i xs)) ++ (32 ∷ t)) (append-nil (decimal (getD xs i 0)))
+
+-- one more number pushed behind a text
+pub pushed-more : (xs : List ℕ) (i : ℕ) (front text after lent word : List ℕ) → i < length xs → text ≡ front ++ spaced (take i xs) → after ≡ text ++ lent → lent ≡ word
+    → word ≡ 32 ∷ decimal (getD xs i 0) → after ≡ front ++ spaced (take (i + 1) xs)
+pushed-more xs i front text after lent word l t a e w =
+    a ∙ ap {B = List ℕ} (λ (u : List ℕ). u ++ lent) t ∙ ap {B = List ℕ} (λ (u : List ℕ). (front ++ spaced (take i xs)) ++ u) (e ∙ w) ∙ sym (spaced-more xs i front l)

@@ -22,7 +22,7 @@ pub numbers-unique : Counts-and-ranks-are-unique
 numbers-unique G = record {
   one-count = λ A m k k′. exactly-unique k k′;
   one-ways = λ Xs m k k′. exactly-unique k k′;
-  one-rank = λ order A k k′ w. exactly-unique k k′;
+  one-rank = λ order A k k′ w r r′. exactly-unique k k′ (r .1) (r′ .1);
 }
 
 -- the ascending order lists each length once

@@ -110,24 +110,26 @@ module _ {G : CFG} {level : ℕ → ℕ} {order : LengthOrder} (ll : LL1 G level
   rank-at A m k l =
       let xs = sentences order G A m in
       let w = getD xs k [] in
-      record {
+      let h = sentences-just A m w .0 (in-at [] xs k l) in
+      (h .0, record {
         all = take k xs;
         once = sorted-take (λ (x y : List ℕ). x ≡ y → ⊥) k xs (sentences-once A m);
         just = λ v. (
           prefix-related (Precedes G order A) [] xs (sentences-sorted A m) k l v,
           λ p.
               in-prefix (Precedes G order A) (λ a b q. strict q (ll .apart) lists) (λ a b q. asymmetric q (ll .apart) lists) [] xs (sentences-sorted A m) k l v
-              (sentences-just A m v .1 (preceding p, equally-long p ∙ sentences-just A m w .0 (in-at [] xs k l) .1)) p,
+              (sentences-just A m v .1 (preceding p, equally-long p ∙ h .1)) p,
         );
         size = length-take-le k xs (omega arith);
-      }
+      })
 
   -- a sentence stands at the place of its rank
   pub place-rank : (A m k : ℕ) (w : List ℕ) → Sentence-of G A m w → Rank G order A w k → (k < length (sentences order G A m)) × (getD (sentences order G A m) k [] ≡ w)
   place-rank A m k w h r =
       let xs = sentences order G A m in
       let p = placed [] xs (sentences-just A m w .1 h) in
-      let e : p .place ≡ k = exactly-unique (p .place) k (subst (λ (y : List ℕ). Rank G order A y (p .place)) (p .is) (rank-at A m (p .place) (p .below))) r in
+      let q = subst (λ (y : List ℕ). Rank G order A y (p .place)) (p .is) (rank-at A m (p .place) (p .below)) in
+      let e : p .place ≡ k = exactly-unique (p .place) k (q .1) (r .1) in
       (omega (arith, p .below), ap {B = List ℕ} (λ (i : ℕ). getD xs i []) (sym e) ∙ p .is)
 
 -- the computed count of a nonterminal is the number of its sentences

@@ -132,6 +132,20 @@ module _ {G : CFG} {level : ℕ → ℕ} {order : LengthOrder} (ll : LL1 G level
       let e : p .place ≡ k = exactly-unique (p .place) k (q .1) (r .1) in
       (omega (arith, p .below), ap {B = List ℕ} (λ (i : ℕ). getD xs i []) (sym e) ∙ p .is)
 
+  -- the rank of a sentence is below the count
+  pub rank-in-count : (A m c k : ℕ) (w : List ℕ) → Count G A m c → Sentence-of G A m w → Rank G order A w k → k < c
+  rank-in-count A m c k w h d r =
+      let e = exactly-unique c (length (sentences order G A m)) h (sentences-exactly A m) in
+      omega (arith, place-rank A m k w d r .0)
+
+  -- each number below the count is the rank of a sentence
+  pub with-rank : (A m c k : ℕ) → Count G A m c → k < c → (w : List ℕ) × Sentence-of G A m w × Rank G order A w k
+  with-rank A m c k h l =
+      let xs = sentences order G A m in
+      let e = exactly-unique c (length xs) h (sentences-exactly A m) in
+      let b : k < length xs = omega arith in
+      (getD xs k [], sentences-just A m (getD xs k []) .0 (in-at [] xs k b), rank-at A m k b)
+
 -- the computed count of a nonterminal is the number of its sentences
 pub computed-count : {G : CFG} {level : ℕ → ℕ} → LL1 G level → (A m : ℕ) → Count G A m (count G A m)
 computed-count {G} ll A m = subst (λ (k : ℕ). Count G A m k) (ascending-sentences G A m) (sentences-exactly ll ascending-lists A m)

@@ -8,14 +8,26 @@ use Rattle.theory.specs.Grammar.{Sentence-of}
 use Rattle.theory.specs.Order.{Precedes, Rank}
 use Rattle.theory.specs.Count.{right-of, side-count, count}
 use Rattle.theory.specs.Enumerate.{sentences}
-use Rattle.theory.specs.Theorems.{Counts-and-ranks-are-unique, Ascending-lists-lengths, One-parse, Rank-below-count, Ranks-number-the-sentences, Sentences-are-listed-in-split-order, Split-order-is-strict-and-total, Count-is-sum-of-slots, Computed-counts-are-counts, At-most-one-way-to-nothing}
+use Rattle.theory.specs.Theorems.{Sets-mean-what-they-say, Counts-and-ranks-are-unique, Ascending-lists-lengths, One-parse, Rank-below-count, Ranks-number-the-sentences, Sentences-are-listed-in-split-order, Split-order-is-strict-and-total, Count-is-sum-of-slots, Computed-counts-are-counts, At-most-one-way-to-nothing}
 use Rattle.theory.proofs.Counting.{slots-same, is-rule, count-equation}
-use Rattle.theory.proofs.Unique.{one-parse}
+use Rattle.theory.proofs.Unique.{nullable, one-parse}
+use Rattle.theory.proofs.Rewriting.{derives-rewrites, rewrites-derives, nullable-derives, nullable-rewrites, first-rewrites, rewrites-first, follow-rewrites, rewrites-follow, reaches-rewrites, rewrites-reaches}
 use Rattle.theory.proofs.Members.{exactly-unique, exactly-one, sorted-total, sorted-transitive, placed}
 use Rattle.theory.proofs.Parts.{empty-parts}
 use Rattle.theory.proofs.Strict.{equally-long, preceded, strict, asymmetric}
 use Rattle.theory.proofs.Ascending.{sorted-counting, ascending-lists}
 use Rattle.theory.proofs.Listing.{sentences-just, sentences-sorted, sentences-once, sentences-only, sentences-exactly, rank-at, place-rank, rank-in-count, with-rank, computed-count, computed-ways}
+
+-- derivations and the smallest sets, over sentential forms
+pub sets-by-forms : Sets-mean-what-they-say
+sets-by-forms G = record {
+  derives = λ Xs w. (derives-rewrites, λ r. rewrites-derives r w refl);
+  nullable = λ Xs. (nullable-rewrites, λ r. nullable (rewrites-derives r [] refl) refl);
+  nullable-derives = λ Xs. (nullable-derives, λ d. nullable d refl);
+  first = λ Xs a. (first-rewrites, λ r. rewrites-first (r .1) a (r .0) refl);
+  follow = λ B a. (follow-rewrites, rewrites-follow B a);
+  reaches = λ A B. (reaches-rewrites, λ r. rewrites-reaches A B (r .0) (r .1));
+}
 
 -- there is one count, one number of ways and one rank
 pub numbers-unique : Counts-and-ranks-are-unique

@@ -110,18 +110,20 @@ module _ {G : CFG} {level : ℕ → ℕ} {order : LengthOrder} (ll : LL1 G level
   rank-at A m k l =
       let xs = sentences order G A m in
       let w = getD xs k [] in
-      let h = sentences-just A m w .0 (in-at [] xs k l) in
-      (h .0, record {
-        all = take k xs;
-        once = sorted-take (λ (x y : List ℕ). x ≡ y → ⊥) k xs (sentences-once A m);
-        just = λ v. (
-          prefix-related (Precedes G order A) [] xs (sentences-sorted A m) k l v,
-          λ p.
-              in-prefix (Precedes G order A) (λ a b q. strict q (ll .apart) lists) (λ a b q. asymmetric q (ll .apart) lists) [] xs (sentences-sorted A m) k l v
-              (sentences-just A m v .1 (preceding p, equally-long p ∙ h .1)) p,
-        );
-        size = length-take-le k xs (omega arith);
-      })
+      let h = sentences-just A m w .0 (in-at [] xs k l) in (
+        h .0,
+        record {
+          all = take k xs;
+          once = sorted-take (λ (x y : List ℕ). x ≡ y → ⊥) k xs (sentences-once A m);
+          just = λ v. (
+            prefix-related (Precedes G order A) [] xs (sentences-sorted A m) k l v,
+            λ p.
+                in-prefix (Precedes G order A) (λ a b q. strict q (ll .apart) lists) (λ a b q. asymmetric q (ll .apart) lists) [] xs (sentences-sorted A m) k l v
+                (sentences-just A m v .1 (preceding p, equally-long p ∙ h .1)) p,
+          );
+          size = length-take-le k xs (omega arith);
+        },
+      )
 
   -- a sentence stands at the place of its rank
   pub place-rank : (A m k : ℕ) (w : List ℕ) → Sentence-of G A m w → Rank G order A w k → (k < length (sentences order G A m)) × (getD (sentences order G A m) k [] ≡ w)

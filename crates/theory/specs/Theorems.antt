@@ -1,15 +1,36 @@
 -- The laws, as the contracts cite them.
 use mathlib.Core.Path.{_≡_}
 use mathlib.Core.Logic.{_↔_, _⊎_}
-use mathlib.Core.List.{List}
+use mathlib.Core.List.{List, [], _∷_, _++_, map}
 use Prim.Native.Nat.{ℕ, _≤_, _<_}
 use lib.ListN.{length}
 use Rattle.theory.specs.Lists.{In, Sorted, Distinct}
-use Rattle.theory.specs.Grammar.{Symbol, CFG, Rule-at, Sentence, Sentence-of, parse}
+use Rattle.theory.specs.Grammar.{Symbol, terminal, nonterminal, CFG, Rule-at, Derives, Sentence, Sentence-of, parse}
+use Rattle.theory.specs.Sets.{Nullable, First, Follow, Reaches}
+use Rattle.theory.specs.Forms.{Rewrites, Rewrites-at-least-once}
 use Rattle.theory.specs.Sound.{Predict-sets-apart, LL1}
 use Rattle.theory.specs.Order.{LengthOrder, Lists-lengths, ascending, Parts, Precedes, Rank}
 use Rattle.theory.specs.Count.{Count, Ways, sum-slots, count, side-count}
 use Rattle.theory.specs.Enumerate.{sentences}
+
+-- derivations and the smallest sets, over sentential forms
+pub record Sets-by-forms (G : CFG) : Type 0 where
+  -- symbols derive the token lists that they rewrite to
+  pub derives : (Xs : List Symbol) (w : List ℕ) → Derives G Xs w ↔ Rewrites G Xs (map terminal w)
+  -- they are nullable if they rewrite to no symbols
+  pub nullable : (Xs : List Symbol) → Nullable G Xs ↔ Rewrites G Xs []
+  -- that is, if they derive the empty list
+  pub nullable-derives : (Xs : List Symbol) → Nullable G Xs ↔ Derives G Xs []
+  -- a is in FIRST of the symbols if they rewrite to a form that begins with a
+  pub first : (Xs : List Symbol) (a : ℕ) → First G Xs a ↔ ((Zs : List Symbol) × Rewrites G Xs (terminal a ∷ Zs))
+  -- a is in FOLLOW(B) if some nonterminal rewrites to a form in which a stands right after B
+  pub follow : (B a : ℕ) → Follow G B a ↔ ((A : ℕ) × (P : List Symbol) × (Q : List Symbol) × Rewrites G (nonterminal A ∷ []) (P ++ (nonterminal B ∷ terminal a ∷ Q)))
+  -- left corners lead from A to B if A rewrites in one or more steps to a form that begins with B
+  pub reaches : (A B : ℕ) → Reaches G A B ↔ ((Zs : List Symbol) × Rewrites-at-least-once G A (nonterminal B ∷ Zs))
+
+-- this holds of every grammar
+abbrev pub Sets-mean-what-they-say : Type 0
+Sets-mean-what-they-say = (G : CFG) → Sets-by-forms G
 
 -- there is one count, one number of ways and one rank
 pub record Numbers-are-unique (G : CFG) : Type 0 where

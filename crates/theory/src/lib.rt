@@ -2,7 +2,12 @@
 //!
 //! The definitions stand in `specs/`, the statements in `specs/Theorems.antt`. A function here does nothing; it exists so that the check asks for the proof.
 
-ghost use Rattle.theory.specs.Theorems.{Counts-and-ranks-are-unique, Ascending-lists-lengths, One-parse, Rank-below-count, Ranks-number-the-sentences, Sentences-are-listed-in-split-order, Split-order-is-strict-and-total, Count-is-sum-of-slots, Computed-counts-are-counts, At-most-one-way-to-nothing};
+ghost use Rattle.theory.specs.Theorems.{Sets-mean-what-they-say, Counts-and-ranks-are-unique, Ascending-lists-lengths, One-parse, Rank-below-count, Ranks-number-the-sentences, Sentences-are-listed-in-split-order, Split-order-is-strict-and-total, Count-is-sum-of-slots, Computed-counts-are-counts, At-most-one-way-to-nothing};
+
+/// Derivations, nullable symbols, FIRST, FOLLOW and left corners are what the forms say that symbols rewrite to.
+pub fn sets_mean_what_they_say()
+    ensures { λ _. ⌜ Sets-mean-what-they-say ⌝ }
+{}
 
 /// There is one count, one number of ways and one rank.
 pub fn counts_and_ranks_are_unique()

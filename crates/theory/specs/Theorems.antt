@@ -15,17 +15,17 @@ use Rattle.theory.specs.Enumerate.{sentences}
 
 -- derivations and the smallest sets, over sentential forms
 pub record Sets-by-forms (G : CFG) : Type 0 where
-  -- symbols derive the token lists that they rewrite to
+  -- symbols derive exactly the token lists that they rewrite to
   pub derives : (Xs : List Symbol) (w : List ℕ) → Derives G Xs w ↔ Rewrites G Xs (map terminal w)
-  -- they are nullable if they rewrite to no symbols
+  -- they are nullable exactly if they rewrite to no symbols
   pub nullable : (Xs : List Symbol) → Nullable G Xs ↔ Rewrites G Xs []
-  -- that is, if they derive the empty list
+  -- that is, exactly if they derive the empty list
   pub nullable-derives : (Xs : List Symbol) → Nullable G Xs ↔ Derives G Xs []
-  -- a is in FIRST of the symbols if they rewrite to a form that begins with a
+  -- a is in FIRST of the symbols exactly if they rewrite to a form that begins with a
   pub first : (Xs : List Symbol) (a : ℕ) → First G Xs a ↔ ((Zs : List Symbol) × Rewrites G Xs (terminal a ∷ Zs))
-  -- a is in FOLLOW(B) if some nonterminal rewrites to a form in which a stands right after B
+  -- a is in FOLLOW(B) exactly if some nonterminal rewrites to a form in which a stands right after B
   pub follow : (B a : ℕ) → Follow G B a ↔ ((A : ℕ) × (P : List Symbol) × (Q : List Symbol) × Rewrites G (nonterminal A ∷ []) (P ++ (nonterminal B ∷ terminal a ∷ Q)))
-  -- left corners lead from A to B if A rewrites in one or more steps to a form that begins with B
+  -- one or more left-corner steps lead from A to B exactly if A rewrites in one or more steps to a form that begins with B
   pub reaches : (A B : ℕ) → Reaches G A B ↔ ((Zs : List Symbol) × Rewrites-at-least-once G A (nonterminal B ∷ Zs))
 
 -- this holds of every grammar

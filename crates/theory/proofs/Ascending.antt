@@ -12,12 +12,13 @@ use lib.ListN.{length, length-append, length-map}
 use Rattle.std.proofs.shelf.Tests.{cases-eq}
 use Rattle.std.specs.declared.option.Option.{Option}
 use Rattle.std.specs.declared.option.Option.the-variants.{None, Some}
-use Rattle.theory.specs.Lists.{In, here, there, Distinct, joined}
+use Rattle.theory.specs.Lists.{In, here, there, Sorted, joined}
 use Rattle.theory.specs.Grammar.{Symbol, terminal, nonterminal, CFG}
 use Rattle.theory.specs.Order.{Lists-lengths, counting-up, ascending}
 use Rattle.theory.specs.Count.{left-of, right-of, if-left, sum-slots, sum-upward, symbol-count, side-count, trees, count}
 use Rattle.theory.specs.Enumerate.{Lists, over, pairs, listed-parts, listed-ways, listed-if, listed-slots, listed, sentences}
 use Rattle.theory.proofs.Counting.{upward-same}
+use Rattle.theory.proofs.Members.{sorted-mono}
 
 -- the members of n numbers from k on
 from-counting : (k n j : ℕ) → In j (counting-up k n) → (k ≤ j) × (j < k + n)
@@ -32,16 +33,16 @@ unfolding counting-up
 in-counting k zero j l h = absurd (omega arith)
 in-counting k (suc n) j l h = ⊎-elim (λ (e : j ≡ k). here e) (λ ne. there (in-counting (suc k) n j (omega arith) (omega arith))) (cases-eq j k)
 
--- n numbers from k on are distinct
-distinct-counting : (k n : ℕ) → Distinct (counting-up k n)
+-- n numbers from k on ascend
+pub sorted-counting : (k n : ℕ) → Sorted _<_ (counting-up k n)
 unfolding counting-up
-distinct-counting k zero = tt
-distinct-counting k (suc n) = (λ y m e. let r = from-counting (suc k) n y m in omega arith, distinct-counting (suc k) n)
+sorted-counting k zero = tt
+sorted-counting k (suc n) = (λ y m. let r = from-counting (suc k) n y m in omega arith, sorted-counting (suc k) n)
 
 -- the ascending order lists each of the lengths 0 to m once
 pub ascending-lists : Lists-lengths ascending
 ascending-lists = record {
-  once = λ m. distinct-counting 0 (suc m);
+  once = λ m. sorted-mono _<_ (λ (x y : ℕ). x ≡ y → ⊥) (ascending m) (λ a b i j l e. omega arith) (sorted-counting 0 (suc m));
   just = λ m j. (λ i. let r = from-counting 0 (suc m) j i in omega arith, λ l. in-counting 0 (suc m) j (omega arith) (omega arith));
 }
 

@@ -110,25 +110,43 @@ module _ {G : CFG} {level : ℕ → ℕ} {order : LengthOrder} (ll : LL1 G level
   rank-at A m k l =
       let xs = sentences order G A m in
       let w = getD xs k [] in
-      record {
-        all = take k xs;
-        once = sorted-take (λ (x y : List ℕ). x ≡ y → ⊥) k xs (sentences-once A m);
-        just = λ v. (
-          prefix-related (Precedes G order A) [] xs (sentences-sorted A m) k l v,
-          λ p.
-              in-prefix (Precedes G order A) (λ a b q. strict q (ll .apart) lists) (λ a b q. asymmetric q (ll .apart) lists) [] xs (sentences-sorted A m) k l v
-              (sentences-just A m v .1 (preceding p, equally-long p ∙ sentences-just A m w .0 (in-at [] xs k l) .1)) p,
-        );
-        size = length-take-le k xs (omega arith);
-      }
+      let h = sentences-just A m w .0 (in-at [] xs k l) in (
+        h .0,
+        record {
+          all = take k xs;
+          once = sorted-take (λ (x y : List ℕ). x ≡ y → ⊥) k xs (sentences-once A m);
+          just = λ v. (
+            prefix-related (Precedes G order A) [] xs (sentences-sorted A m) k l v,
+            λ p.
+                in-prefix (Precedes G order A) (λ a b q. strict q (ll .apart) lists) (λ a b q. asymmetric q (ll .apart) lists) [] xs (sentences-sorted A m) k l v
+                (sentences-just A m v .1 (preceding p, equally-long p ∙ h .1)) p,
+          );
+          size = length-take-le k xs (omega arith);
+        },
+      )
 
   -- a sentence stands at the place of its rank
   pub place-rank : (A m k : ℕ) (w : List ℕ) → Sentence-of G A m w → Rank G order A w k → (k < length (sentences order G A m)) × (getD (sentences order G A m) k [] ≡ w)
   place-rank A m k w h r =
       let xs = sentences order G A m in
       let p = placed [] xs (sentences-just A m w .1 h) in
-      let e : p .place ≡ k = exactly-unique (p .place) k (subst (λ (y : List ℕ). Rank G order A y (p .place)) (p .is) (rank-at A m (p .place) (p .below))) r in
+      let q = subst (λ (y : List ℕ). Rank G order A y (p .place)) (p .is) (rank-at A m (p .place) (p .below)) in
+      let e : p .place ≡ k = exactly-unique (p .place) k (q .1) (r .1) in
       (omega (arith, p .below), ap {B = List ℕ} (λ (i : ℕ). getD xs i []) (sym e) ∙ p .is)
+
+  -- the rank of a sentence is below the count
+  pub rank-in-count : (A m c k : ℕ) (w : List ℕ) → Count G A m c → Sentence-of G A m w → Rank G order A w k → k < c
+  rank-in-count A m c k w h d r =
+      let e = exactly-unique c (length (sentences order G A m)) h (sentences-exactly A m) in
+      omega (arith, place-rank A m k w d r .0)
+
+  -- each number below the count is the rank of a sentence
+  pub with-rank : (A m c k : ℕ) → Count G A m c → k < c → (w : List ℕ) × Sentence-of G A m w × Rank G order A w k
+  with-rank A m c k h l =
+      let xs = sentences order G A m in
+      let e = exactly-unique c (length xs) h (sentences-exactly A m) in
+      let b : k < length xs = omega arith in
+      (getD xs k [], sentences-just A m (getD xs k []) .0 (in-at [] xs k b), rank-at A m k b)
 
 -- the computed count of a nonterminal is the number of its sentences
 pub computed-count : {G : CFG} {level : ℕ → ℕ} → LL1 G level → (A m : ℕ) → Count G A m (count G A m)

@@ -62,11 +62,11 @@ unfoldable pub side-count : (ℕ → ℕ → ℕ) → List Symbol → ℕ → �
 side-count F [] m = one-at 0 m
 side-count F (X ∷ Xs) m = sum-splits (symbol-count F X) (side-count F Xs) m
 
--- the derivation trees of A with m leaves and at most f levels of nonterminals
+-- how many derivation trees of A have m terminal leaves and at most f nonterminals on a path
 unfoldable pub trees : CFG → ℕ → ℕ → ℕ → ℕ
 trees G zero A m = 0
 trees G (suc f) A m = sum-slots G A (λ s. side-count (trees G f) (right-of (G .slot s)) m) (G .slots)
 
--- the count of A at m, computed: no tree with m leaves has more than 16 × (m + 1) levels (a law says that this is how many sentences there are)
+-- the count of A at m, computed: no tree with m terminal leaves has more than 16 × (m + 1) nonterminals on a path (a law says that this is how many sentences there are)
 unfoldable pub count : CFG → ℕ → ℕ → ℕ
 count G A m = trees G (16 * m + 16) A m

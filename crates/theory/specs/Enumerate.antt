@@ -1,4 +1,4 @@
--- The sentences of each length, listed in split order: a means to the laws. Assumes nothing.
+-- The sentences of each length, listed in split order. Assumes nothing.
 use mathlib.Core.Bool.{Bool, cond}
 use mathlib.Core.List.{List, [], _∷_, _++_, map}
 use Prim.Native.Nat.{ℕ, zero, suc, _+_, _-_, _*_}
@@ -45,7 +45,7 @@ listed-slots order G S A m zero = []
 listed-slots order G S A m (suc s) =
     listed-slots order G S A m s ++ listed-if (left-of (G .slot s)) A (map joined (listed-ways order S (right-of (G .slot s)) m))
 
--- the sentences with derivation trees of at most f levels of nonterminals
+-- the sentences with derivation trees of at most f nonterminals on a path
 unfoldable pub listed : LengthOrder → CFG → ℕ → Lists
 listed order G zero A m = []
 listed order G (suc f) A m = listed-slots order G (listed order G f) A m (G .slots)

@@ -4,6 +4,7 @@ use mathlib.Core.List.{List, [], _∷_, _++_}
 use Prim.Native.Nat.{ℕ}
 use lib.ListN.{length}
 
+-- a symbol is a terminal or a nonterminal, by its number
 pub data Symbol : Type 0 where
   terminal : ℕ → Symbol
   nonterminal : ℕ → Symbol
@@ -43,7 +44,7 @@ Sentence G A w = Derives G (nonterminal A ∷ []) w
 abbrev pub Sentence-of : CFG → ℕ → ℕ → List ℕ → Type 0
 Sentence-of G A m w = Sentence G A w × (length w ≡ m)
 
--- the slots that a derivation uses, in the order in which they are expanded: they determine the derivation
+-- the slots that a derivation uses, in the order in which they are expanded
 unfoldable pub parse : {G : CFG} {Xs : List Symbol} {w : List ℕ} → Derives G Xs w → List ℕ
 parse done = []
 parse (read p d) = parse d

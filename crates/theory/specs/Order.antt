@@ -5,7 +5,7 @@ use mathlib.Core.List.{List, [], _∷_, _++_}
 use Prim.Native.Nat.{ℕ, zero, suc, _≤_, _<_}
 use lib.ListN.{length}
 use Rattle.theory.specs.Lists.{In, Distinct, Before, Exactly, joined}
-use Rattle.theory.specs.Grammar.{Symbol, nonterminal, CFG, Rule-at, Derives}
+use Rattle.theory.specs.Grammar.{Symbol, nonterminal, CFG, Rule-at, Derives, Sentence}
 
 -- which length comes first: for each m, a list of the lengths 0 to m
 abbrev pub LengthOrder : Type 0
@@ -48,6 +48,6 @@ mutual
     by-rest : {X : Symbol} {Xs : List Symbol} {v w : List ℕ} {vs ws : List (List ℕ)} → v ≡ w → Parts-precede G order Xs vs ws
         → Parts-precede G order (X ∷ Xs) (v ∷ vs) (w ∷ ws)
 
--- the rank of w among the sentences of A of its length ("its number"): how many precede it
+-- the rank of w among the sentences of A of its length: w is a sentence of A, and exactly k sentences precede it
 abbrev pub Rank : CFG → LengthOrder → ℕ → List ℕ → ℕ → Type 0
-Rank G order A w k = Exactly k (λ v. Precedes G order A v w)
+Rank G order A w k = Sentence G A w × Exactly k (λ v. Precedes G order A v w)

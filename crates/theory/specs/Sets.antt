@@ -1,11 +1,11 @@
--- The smallest sets of a grammar: what is nullable, FIRST, FOLLOW, predict sets and left corners. Each is the smallest relation that its lines close.
+-- The smallest sets of a grammar: what is nullable, FIRST, FOLLOW, predict sets and left corners. Each is the smallest relation closed under its lines.
 -- Every filled slot counts, whether the start reaches it or not. Assumes nothing.
 use mathlib.Core.Path.{_≡_}
 use mathlib.Core.List.{List, [], _∷_, _++_}
 use Prim.Native.Nat.{ℕ}
 use Rattle.theory.specs.Grammar.{Symbol, terminal, nonterminal, CFG, Rule-at}
 
--- all the symbols are nonterminals that derive no tokens ("vanish")
+-- all the symbols are nonterminals that derive the empty list
 pub data Nullable (G : CFG) : List Symbol → Type 0 where
   none : Nullable G []
   next : {A : ℕ} {Xs : List Symbol} (s : ℕ) (Ys : List Symbol) → Rule-at G s A Ys → Nullable G Ys → Nullable G Xs → Nullable G (nonterminal A ∷ Xs)
@@ -46,7 +46,7 @@ pub data Leads (G : CFG) : List Symbol → ℕ → Type 0 where
   at-front : {A B : ℕ} {Xs : List Symbol} → A ≡ B → Leads G (nonterminal A ∷ Xs) B
   past : {A B : ℕ} {Xs : List Symbol} → Nullable G (nonterminal A ∷ []) → Leads G Xs B → Leads G (nonterminal A ∷ Xs) B
 
--- B is a left corner of A ("corner")
+-- B is a left corner of A: it leads a right-hand side of A
 pub record LeftCorner (G : CFG) (A B : ℕ) : Type 0 where
   pub slot : ℕ
   pub side : List Symbol

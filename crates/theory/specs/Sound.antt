@@ -38,13 +38,14 @@ No-left-recursion G = (A : ℕ) → Reaches G A A → ⊥
 abbrev pub Predict-sets-apart : CFG → Type 0
 Predict-sets-apart G = (s s′ A : ℕ) (Ys Ys′ : List Symbol) (n : Next) → Rule-at G s A Ys → Rule-at G s′ A Ys′ → Predict G s n → Predict G s′ n → s ≡ s′
 
+-- a sound grammar keeps the three rules
 pub record Sound (G : CFG) : Type 0 where
   pub no-long-nullable-side : No-long-nullable-side G
   pub no-left-recursion : No-left-recursion G
   pub predict-sets-apart : Predict-sets-apart G
   deriving IsProp as sound-prop
 
--- levels: a number below 16 for each nonterminal that falls from it to each of its left corners
+-- levels: a number below 16 for each nonterminal, which falls from it to each of its left corners
 pub record Levels (G : CFG) (level : ℕ → ℕ) : Type 0 where
   pub small : (A : ℕ) → level A < 16
   pub falls : (A B : ℕ) → LeftCorner G A B → level B < level A

@@ -56,3 +56,58 @@ Is-setting command.Table = ⊥
 Is-setting (command.Cell i) = ⊥
 Is-setting (command.Flip i b) = ⊥
 Is-setting (command.Poke i v) = ⊥
+
+-- the grammar of a session's pile, its choice and its levels
+abbrev pub session-grammar : Session Brackets → CFG
+session-grammar s = with-start (kept-slots (bracket-grammar (s .pile .below .below .kinds)) (s .pile .below .mask)) (s .pile .start)
+
+abbrev pub session-choice : Session Brackets → ℕ → Next → Option ℕ
+session-choice s A n = kept-choice (s .pile .below .mask) (bracket-choice (s .pile .below .below .kinds) A n)
+
+-- the pile's settings are the same
+pub record Same-pile (before after : Session Brackets) : Type 0 where
+  pub kinds : after .pile .below .below .kinds ≡ before .pile .below .below .kinds
+  pub mask : after .pile .below .mask ≡ before .pile .below .mask
+  pub start : after .pile .start ≡ before .pile .start
+
+-- the amounts of working stack and output and the bound are the same
+pub record Same-amounts (before after : Session Brackets) : Type 0 where
+  pub stack : after .stack ≡ before .stack
+  pub output : after .output ≡ before .output
+  pub bound : after .bound ≡ before .bound
+
+-- the lent memory and the bound are the same
+pub record Same-memory (before after : Session Brackets) : Type 0 where
+  pub cells : vec-items (after .cells) ≡ vec-items (before .cells)
+  pub amounts : Same-amounts before after
+
+-- what each command answers and what it changes
+pub data Runs (before after : Session Brackets) : Command → Answer → Type 0 where
+  brackets : (k : ℕ) → after .pile .below .below .kinds ≡ cond (kinds-allowed k) k (before .pile .below .below .kinds)
+      → after .pile .below .mask ≡ before .pile .below .mask → after .pile .start ≡ before .pile .start → Same-memory before after
+      → Runs before after (command.Brackets k) (setting-answer (kinds-answer k))
+  neutral : after .pile .below .below .kinds ≡ before .pile .below .below .kinds → after .pile .below .mask ≡ all-bits → after .pile .start ≡ None → Same-memory before after
+      → Runs before after command.Neutral Done
+  restrict : (m : ℕ) (r : Result (Unit {0}) Fault) → after .pile .below .below .kinds ≡ before .pile .below .below .kinds
+      → Mask-set (bracket-grammar (before .pile .below .below .kinds) .slots) m (before .pile .below .mask) (after .pile .below .mask) r
+      → after .pile .start ≡ before .pile .start → Same-memory before after → Runs before after (command.Restrict m) (setting-answer r)
+  start : (s : ℕ) → after .pile .below .below .kinds ≡ before .pile .below .below .kinds → after .pile .below .mask ≡ before .pile .below .mask
+      → after .pile .start ≡ cond (ltb s (bracket-grammar (before .pile .below .below .kinds) .nonterminals)) (Some s) (before .pile .start) → Same-memory before after
+      → Runs before after (command.Start s) (setting-answer (start-answer (bracket-grammar (before .pile .below .below .kinds) .nonterminals) s))
+  memory : (c s o : ℕ) → Same-pile before after → vec-items (after .cells) ≡ replicate c 0 → after .stack ≡ s → after .output ≡ o → after .bound ≡ before .bound
+      → Runs before after (command.Memory c s o) Done
+  bound : (b : ℕ) → Same-pile before after → vec-items (after .cells) ≡ vec-items (before .cells) → after .stack ≡ before .stack → after .output ≡ before .output → after .bound ≡ b
+      → Runs before after (command.Bound b) Done
+  asks : (c : Command) (a : Answer) → Same-pile before after → Same-amounts before after
+      → Asks (session-grammar before) (session-choice before) (λ A. 0) (before .bound) (vec-items (before .cells)) (vec-items (after .cells)) c a
+      → Runs before after c a
+
+-- what a session is at first: one kind of brackets, both layers neutral, 20000 cells that are 0, 1000 stack entries, 400 output bytes, the bound 8
+pub record At-first (s : Session Brackets) : Type 0 where
+  pub kinds : s .pile .below .below .kinds ≡ 1
+  pub mask : s .pile .below .mask ≡ all-bits
+  pub start : s .pile .start ≡ None
+  pub cells : vec-items (s .cells) ≡ replicate 20000 0
+  pub stack : s .stack ≡ 1000
+  pub output : s .output ≡ 400
+  pub bound : s .bound ≡ 8

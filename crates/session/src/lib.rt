@@ -5,4 +5,5 @@ pub mod ask;
 pub mod cells;
 pub mod settings;
 pub mod state;
+pub mod run;
 pub mod work;

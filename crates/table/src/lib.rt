@@ -99,7 +99,7 @@ pub fn equations_have_one_solution()
     ensures { λ _. ⌜ Equations-have-one-solution ⌝ }
 {}
 
-/// Where counting for a bound fails at a length, counting for one less than that length succeeds.
+/// Where counting for a bound fails at a length, counting for one less than that length succeeds: no count passes the limit, and with room no fault refuses it.
 pub fn counts_fit_below_failure()
     ensures { λ _. ⌜ Counts-fit-below-failure ⌝ }
 {}

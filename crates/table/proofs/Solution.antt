@@ -163,6 +163,13 @@ module _ {G : CFG} {level : ℕ → ℕ} (ll : LL1 G level) {L : ℕ} {t : List 
   pub sound-obeys : Sound-table G L t → All-obey G L t
   sound-obeys sound = right-obeys (sound-right sound)
 
+  -- the counts of a sound table fit
+  pub sound-fits : Sound-table G L t → Counts-fit G L
+  sound-fits sound m l p =
+      let r = sound-right sound (p .row) m (p .is-row) (omega arith) in
+      let e = unique ll (p .row) m (p .value) (p .counts) in
+      omega (arith, p .large, r .low)
+
   -- a count that stopped at m passes the limit there first
   pub first-passes : {before : List ℕ} (m : ℕ) → Stopped G L before t m → First-passes G L m
   first-passes m s = record {
@@ -174,9 +181,6 @@ module _ {G : CFG} {level : ℕ → ℕ} (ll : LL1 G level) {L : ℕ} {t : List 
         omega (arith, p .large);
   }
 
-pub one-solution : Equations-have-one-solution
-one-solution G level ll L cells = (obey-sound ll, sound-obeys ll)
-
 -- where there is room, there is no fault of room
 pub room-enough : {G : CFG} {L : ℕ} {t : List ℕ} {f : Fault} → Room G L t → No-room G L (length t) f → ⊥
 room-enough r (too-long l) = omega (arith, r .small)
@@ -186,6 +190,9 @@ room-enough r (short-cells l n) = omega (arith, r .enough)
 pub fit-counts : {G : CFG} {L : ℕ} {t u : List ℕ} {f : Fault} → Room G L t → Counts-fit G L → Count-refused G L t u f → ⊥
 fit-counts r h (no-room n e) = room-enough r n
 fit-counts r h (too-large m o p z) = h m (p .short) (p .passes)
+
+pub one-solution : Equations-have-one-solution
+one-solution G level ll L cells = (obey-sound ll, sound-obeys ll)
 
 -- each count at length 0 is at most 1
 none-at : (G : CFG) (ρ : Row) (k : ℕ) → Stands-for G ρ 0 k → k ≤ 1

@@ -4,6 +4,9 @@ use mathlib.Core.Bool.{Bool, true, false}
 use mathlib.Core.List.{List}
 use Prim.Native.Nat.{ℕ, _+_, _^_, _≤_, _<_}
 use lib.ListN.{length, getD}
+use Rattle.std.specs.declared.result.Result.{Result}
+use Rattle.std.specs.Results.{isOk, Cases}
+use Rattle.std.specs.Orderings.{Decides}
 use Rattle.fault.specs.declared.Fault.{Fault}
 use Rattle.fault.specs.declared.Fault.the-variants.{TooLong, ShortMemory, CountTooLarge, BrokenCell}
 use Rattle.fault.specs.declared.Memory.the-variants.{Cells}
@@ -12,7 +15,7 @@ use Rattle.table.specs.Rows.{Row-of, needed, Room}
 use Rattle.table.specs.Layouts.{Laid}
 use Rattle.table.specs.declared.layout.Layout.{Layout}
 use Rattle.table.specs.Equations.{Lowest-broken}
-use Rattle.table.specs.Counts.{Sound-table, First-passes, count-of}
+use Rattle.table.specs.Counts.{Sound-table, Counts-fit, First-passes, count-of}
 use Rattle.table.specs.Filling.{Correct-below, Over}
 use Rattle.table.specs.declared.Row.{Row}
 
@@ -52,6 +55,13 @@ pub record Has-room (G : CFG) (L n : ℕ) (layout : Layout) : Type 0 where
   pub enough : needed G L ≤ n
   pub laid : Laid G L layout
 
+-- what is answered of the cells that a table needs
+pub record Needed-answer (G : CFG) (L : ℕ) (cells : List ℕ) (r : Result ℕ Fault) : Type 0 where
+  -- there is room, and so many are needed; or why there is no room
+  pub answer : Cases r (λ n. Room G L cells × (n ≡ needed G L)) (No-room G L (length cells))
+  -- Ok is answered exactly where there is room
+  pub exactly : Decides (isOk r) (Room G L cells)
+
 -- how counting ends well: each needed cell is the count that it stands for, and all others are as they stood
 pub record Counted (G : CFG) (L : ℕ) (before after : List ℕ) : Type 0 where
   pub room : Room G L before
@@ -63,7 +73,21 @@ pub data Count-refused (G : CFG) (L : ℕ) (before after : List ℕ) : Fault →
   no-room : {f : Fault} → No-room G L (length before) f → after ≡ before → Count-refused G L before after f
   too-large : (m : ℕ) → Room G L before → First-passes G L m → Zeroed (needed G L) before after → Count-refused G L before after (CountTooLarge m)
 
+-- what counting answers, and what it leaves
+pub record Count-answer {T : Type 0} (G : CFG) (L : ℕ) (before after : List ℕ) (r : Result T Fault) : Type 0 where
+  -- the table is counted, or the count is refused
+  pub answer : Cases r (λ _. Counted G L before after) (Count-refused G L before after)
+  -- Ok is answered exactly where there is room and no count passes 2^63 - 1
+  pub exactly : Decides (isOk r) (Room G L before × Counts-fit G L)
+
 -- how the check refuses a table: there is no room, or a needed cell breaks its equation, and the lowest such is named. No other fault
 pub data Check-refused (G : CFG) (L : ℕ) (cells : List ℕ) : Fault → Type 0 where
   no-room : {f : Fault} → No-room G L (length cells) f → Check-refused G L cells f
   broken : (i : ℕ) → Room G L cells → Lowest-broken G L cells i → Check-refused G L cells (BrokenCell i)
+
+-- what the check answers
+pub record Check-answer {T : Type 0} (G : CFG) (L : ℕ) (cells : List ℕ) (r : Result T Fault) : Type 0 where
+  -- there is room and the table is sound, or why it is refused
+  pub answer : Cases r (λ _. Room G L cells × Sound-table G L cells) (Check-refused G L cells)
+  -- Ok is answered exactly where there is room and the table is sound
+  pub exactly : Decides (isOk r) (Room G L cells × Sound-table G L cells)

@@ -118,7 +118,14 @@ fn prefix_end<G: Grammar>(g: &G, layout: &Layout, cells: &[u64], s: u8) -> u8
 }
 
 // Writes the suffixes of slot `s` that its left-hand side, if that is `a`, needs for the length `m`; false where a count passes the limit.
-fn fill_prefix<G: Grammar>(g: &G, layout: &Layout, cells: &mut [u64], a: u8, s: u8, m: usize) -> bool
+fn fill_prefix<G: Grammar>(
+    g: &G,
+    layout: &Layout,
+    cells: &mut [u64],
+    a: u8,
+    s: u8,
+    m: usize,
+) -> bool
     requires laid { ⌜ Laid (meaning (now g)) (now layout .bound) (now layout) ⌝ }
     requires room { ⌜ Room (meaning (now g)) (now layout .bound) (now cells) ⌝ }
     requires short { ⌜ m ≤ now layout .bound ⌝ }

@@ -3,13 +3,8 @@
 //! A table for the bound L has a row for each nonterminal, then for each filled slot in order a row for each suffix of its right-hand side but the empty one.
 //! A row holds a cell for each of the lengths 0 to L.
 
-ghost use mathlib.Core.Path.{_≡_};
-ghost use Prim.Native.Nat.{ℕ};
-ghost use lib.ListN.{length};
 ghost use Rattle.std.specs.Results.{Cases};
-ghost use Rattle.table.specs.Rows.{needed, Room};
-ghost use Rattle.table.specs.Counts.{Sound-table};
-ghost use Rattle.table.specs.Calls.{No-room, Has-room, Counted, Count-refused, Check-refused};
+ghost use Rattle.table.specs.Calls.{No-room, Has-room, Needed-answer, Count-answer, Check-answer};
 ghost use Rattle.table.specs.Laws.{Equations-have-one-solution, Counts-fit-below-failure};
 use checking::lowest_broken;
 use fault::Fault;
@@ -60,7 +55,7 @@ fn room<G: Grammar>(g: &G, bound: usize, cells: usize) -> Result<Layout, Fault>
 ///
 /// Fault 9 if the bound is above 48, place the bound; 10 if there are too few cells, place 1.
 pub fn needed_cells<G: Grammar>(g: &G, table: &Table<'_>) -> Result<usize, Fault>
-    ensures { λ r. ⌜ Cases r (λ n. Room (meaning (now (g .entry))) (now (table .entry) .bound) (now (now (table .entry) .cells)) × (n ≡ needed (meaning (now (g .entry))) (now (table .entry) .bound))) (No-room (meaning (now (g .entry))) (now (table .entry) .bound) (length (now (now (table .entry) .cells)))) ⌝ }
+    ensures { λ r. ⌜ Needed-answer (meaning (now (g .entry))) (now (table .entry) .bound) (now (now (table .entry) .cells)) r ⌝ }
 {
     let layout = room(g, table.bound, table.cells.len())?;
     Ok(layout.rows * (table.bound + 1))
@@ -71,7 +66,7 @@ pub fn needed_cells<G: Grammar>(g: &G, table: &Table<'_>) -> Result<usize, Fault
 /// Fault 9 if the bound is above 48, place the bound; 10 if there are too few cells, place 1; 11 if a count passes 2^63 - 1, place the smallest such length.
 /// After 11 the needed cells are 0; after 9 and 10 all stand. The cells past the needed ones always stand.
 pub fn count<G: Grammar>(g: &G, table: Table<'_>) -> Result<(), Fault>
-    ensures { λ r. ⌜ Cases r (λ _. Counted (meaning (now (g .entry))) (table .entry .bound) (now (table .entry .cells)) (now (table .exit .0))) (Count-refused (meaning (now (g .entry))) (table .entry .bound) (now (table .entry .cells)) (now (table .exit .0))) ⌝ }
+    ensures { λ r. ⌜ Count-answer (meaning (now (g .entry))) (table .entry .bound) (now (table .entry .cells)) (now (table .exit .0)) r ⌝ }
 {
     let Table { cells, bound } = table;
     let layout = room(g, bound, cells.len())?;
@@ -85,7 +80,7 @@ pub fn count<G: Grammar>(g: &G, table: Table<'_>) -> Result<(), Fault>
 ///
 /// Fault 9 if the bound is above 48, place the bound; 10 if there are too few cells, place 1; 12 if a needed cell breaks its equation, place the lowest such cell.
 pub fn check<G: Grammar>(g: &G, table: &Table<'_>) -> Result<(), Fault>
-    ensures { λ r. ⌜ Cases r (λ _. Room (meaning (now (g .entry))) (now (table .entry) .bound) (now (now (table .entry) .cells)) × Sound-table (meaning (now (g .entry))) (now (table .entry) .bound) (now (now (table .entry) .cells))) (Check-refused (meaning (now (g .entry))) (now (table .entry) .bound) (now (now (table .entry) .cells))) ⌝ }
+    ensures { λ r. ⌜ Check-answer (meaning (now (g .entry))) (now (table .entry) .bound) (now (now (table .entry) .cells)) r ⌝ }
 {
     let layout = room(g, table.bound, table.cells.len())?;
     match lowest_broken(g, &layout, table.cells) {

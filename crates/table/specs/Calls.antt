@@ -19,11 +19,11 @@ use Rattle.table.specs.Counts.{Sound-table, Counts-fit, First-passes, count-of
 use Rattle.table.specs.Filling.{Correct-below, Over}
 use Rattle.table.specs.declared.Row.{Row}
 
--- the cells from n on are as they stood
+-- the cells from n on are unchanged
 abbrev pub Same-past : ℕ → List ℕ → List ℕ → Type 0
 Same-past n before after = (length after ≡ length before) × ((k : ℕ) → n ≤ k → getD after k 0 ≡ getD before k 0)
 
--- the first n cells are 0, and the others are as they stood
+-- the first n cells are 0, and the others are unchanged
 abbrev pub Zeroed : ℕ → List ℕ → List ℕ → Type 0
 Zeroed n before after = ((k : ℕ) → k < n → getD after k 0 ≡ 0) × Same-past n before after
 
@@ -37,7 +37,7 @@ pub data No-room (G : CFG) (L n : ℕ) : Fault → Type 0 where
   too-long : 48 < L → No-room G L n (TooLong L)
   short-cells : L ≤ 48 → n < needed G L → No-room G L n (ShortMemory Cells)
 
--- the needed cells hold their counts, and the others are as they stood
+-- the needed cells hold their counts, and the others are unchanged
 pub record Filled (G : CFG) (L : ℕ) (before after : List ℕ) : Type 0 where
   pub right : Correct-below G L after (L + 1)
   pub rest : Same-past (needed G L) before after
@@ -62,13 +62,13 @@ pub record Needed-answer (G : CFG) (L : ℕ) (cells : List ℕ) (r : Result ℕ 
   -- Ok is answered exactly where there is room
   pub exactly : Decides (isOk r) (Room G L cells)
 
--- how counting ends well: each needed cell is the count that it stands for, and all others are as they stood
+-- how counting ends well: each needed cell is the count that it stands for, and all others are unchanged
 pub record Counted (G : CFG) (L : ℕ) (before after : List ℕ) : Type 0 where
   pub room : Room G L before
   pub sound : Sound-table G L after
   pub rest : Same-past (needed G L) before after
 
--- how counting is refused: there is no room, and all cells stand; or a count passes 2^63 - 1, and the needed cells are 0. No other fault
+-- how counting is refused: there is no room, and all cells are unchanged; or a count passes 2^63 - 1, and the needed cells are 0. No other fault
 pub data Count-refused (G : CFG) (L : ℕ) (before after : List ℕ) : Fault → Type 0 where
   no-room : {f : Fault} → No-room G L (length before) f → after ≡ before → Count-refused G L before after f
   too-large : (m : ℕ) → Room G L before → First-passes G L m → Zeroed (needed G L) before after → Count-refused G L before after (CountTooLarge m)

@@ -21,7 +21,7 @@ fn zero(cells: &mut [u64], n: usize)
     }
 }
 
-/// Holds the cells of a table while it is counted. Let go before the count is accepted, it writes 0 into the needed cells.
+/// Holds the cells of a table while it is counted. Dropped before the count is accepted, it writes 0 into the needed cells.
 pub(crate) struct Counting<'a> {
     pub(crate) cells: &'a mut [u64],
     pub(crate) needed: usize,

@@ -1,4 +1,4 @@
-//! The table of counts: how many sentences each nonterminal has of each length, and in how many ways each suffix of a right-hand side gives it.
+//! The table of counts: how many sentences each nonterminal has of each length, and how many ways each suffix of a right-hand side has at that length.
 //!
 //! A table for the bound L has a row for each nonterminal, then for each filled slot in order a row for each suffix of its right-hand side but the empty one.
 //! A row holds a cell for each of the lengths 0 to L.
@@ -24,6 +24,8 @@ mod sums;
 pub const GREATEST_BOUND: usize = 48;
 
 /// What a row of a table counts: a nonterminal, or a suffix, the right-hand side of a slot from a position on.
+///
+/// No call takes or gives one: it is public for the definitions that speak of rows.
 #[derive(Clone, Copy)]
 pub enum Row {
     Nonterminal(u8),
@@ -61,10 +63,10 @@ pub fn needed_cells<G: Grammar>(g: &G, table: &Table<'_>) -> Result<usize, Fault
     Ok(layout.rows * (table.bound + 1))
 }
 
-/// Fills the needed cells with the counts: each is how many sentences its nonterminal has of its length, or in how many ways its suffix gives it.
+/// Fills the needed cells with the counts: each is how many sentences its nonterminal has of its length, or how many ways its suffix has at that length.
 ///
 /// Fault 9 if the bound is above 48, place the bound; 10 if there are too few cells, place 1; 11 if a count passes 2^63 - 1, place the smallest such length.
-/// After 11 the needed cells are 0; after 9 and 10 all stand. The cells past the needed ones always stand.
+/// After 11 the needed cells are 0; after 9 and 10 all cells are unchanged. The cells past the needed ones are always unchanged.
 pub fn count<G: Grammar>(g: &G, table: Table<'_>) -> Result<(), Fault>
     ensures { λ r. ⌜ Count-answer (meaning (now (g .entry))) (table .entry .bound) (now (table .entry .cells)) (now (table .exit .0)) r ⌝ }
 {

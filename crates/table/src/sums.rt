@@ -70,7 +70,7 @@ fn terminal_sum(bound: usize, cells: &[u64], empty: bool, rest: usize, m: usize)
     }
 }
 
-// The sum over the ways to split `m` between the symbol with that byte and the rest behind it, which has the row `rest` unless it is empty.
+// The sum over the splits of `m` between the symbol with that byte and the rest behind it, which has the row `rest` unless it is empty.
 fn suffix_sum(
     bound: usize,
     cells: &[u64],

@@ -11,8 +11,9 @@ use Rattle.std.proofs.shelf.Tests.{cases-eq}
 use Rattle.theory.specs.Grammar.{CFG}
 use Rattle.table.specs.Rows.{Row-of, row-number, place, Room}
 use Rattle.table.specs.Counts.{count-of}
-use Rattle.table.specs.Layouts.{At-row}
-use Rattle.table.specs.Filling.{Correct, Correct-below, Keeps, Unless-over, Prefix-correct-of, Done, All-done}
+use Rattle.table.specs.Layouts.{Ready, At-row}
+use Rattle.table.specs.Filling.{Correct, Correct-below, Ready-at, Keeps, Unless-over, Prefix-correct-of, Done, All-done}
+use Rattle.table.specs.declared.layout.Layout.{Layout}
 use Rattle.table.specs.declared.Row.{Row}
 use Rattle.table.specs.declared.Row.the-variants.{Nonterminal, Suffix}
 use Rattle.table.proofs.Rows.{row-cell, cell-below, same-row, same-place}
@@ -32,6 +33,13 @@ keeps-room p f = record { small = f .small; enough = omega (arith, p .long, f .e
 
 pub keeps-below : {G : CFG} {L : ℕ} {t u : List ℕ} {m : ℕ} → Keeps G L t u → m ≤ L + 1 → Correct-below G L t m → Correct-below G L u m
 keeps-below p l b = λ ρ k h o. p .still ρ k h (omega arith) (b ρ k h o)
+
+pub keeps-table : {G : CFG} {layout : Layout} {t u : List ℕ} → Keeps G (layout .bound) t u → Ready G layout t → Ready G layout u
+keeps-table k r = record { laid = r .laid; room = keeps-room k (r .room) }
+
+-- cells that were ready for a length still are
+pub keeps-ready : {G : CFG} {layout : Layout} {t u : List ℕ} {m : ℕ} → Keeps G (layout .bound) t u → Ready-at G layout t m → Ready-at G layout u m
+keeps-ready k r = record { table = keeps-table k (r .table); short = r .short; below = keeps-below k (omega (arith, r .short)) (r .below) }
 
 module _ {G : CFG} {L : ℕ} {t : List ℕ} {ρ : Row} {r : ℕ} (f : Room G L t) (a : At-row G ρ r) (m v : ℕ) (l : m ≤ L) (e : v ≡ count-of G ρ m) (low : count-of G ρ m < 2 ^ 63) where
   pub put-right : Correct G L (set t (place L r m) v) ρ m

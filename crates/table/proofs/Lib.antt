@@ -7,3 +7,4 @@ pub mod Fills
 pub mod Due
 pub mod Prefix
 pub mod Solution
+pub mod Calls

@@ -9,6 +9,7 @@ use native.Mathlib.Omega.{arith}
 use lib.ListN.{length, drop, take}
 use Rattle.std.proofs.shelf.Tests.{cases-eq, cases-lt}
 use Rattle.std.specs.declared.option.Option.the-variants.{Some}
+use Rattle.fault.specs.declared.Fault.{Fault}
 use Rattle.theory.specs.Grammar.{Symbol, terminal, nonterminal, CFG}
 use Rattle.theory.specs.Sets.{Nullable, none}
 use Rattle.theory.specs.Sound.{LL1}
@@ -19,9 +20,9 @@ use Rattle.theory.proofs.Listing.{computed-count, computed-ways}
 use Rattle.theory.proofs.Laws.{one-way-to-nothing}
 use Rattle.table.specs.Rows.{Row-of, row-number, cell-at, Room}
 use Rattle.table.specs.Equations.{equation, Obeys, All-obey}
-use Rattle.table.specs.Counts.{Stands-for, Sound-cell, Sound-table, Passes, First-passes, count-of}
+use Rattle.table.specs.Counts.{Stands-for, Sound-cell, Sound-table, Passes, Counts-fit, First-passes, count-of}
 use Rattle.table.specs.Filling.{Correct, Correct-below, Needs-no-rest, Corners-correct, Leading-correct, Prefix-correct-of, Over}
-use Rattle.table.specs.Calls.{Filled, Stopped, Counted, Count-refused, too-large}
+use Rattle.table.specs.Calls.{No-room, too-long, short-cells, Filled, Stopped, Count-refused, no-room, too-large}
 use Rattle.table.specs.Laws.{Equations-have-one-solution, Counts-fit-below-failure}
 use Rattle.table.specs.declared.Row.{Row}
 use Rattle.table.specs.declared.Row.the-variants.{Nonterminal, Suffix}
@@ -162,6 +163,13 @@ module _ {G : CFG} {level : ℕ → ℕ} (ll : LL1 G level) {L : ℕ} {t : List 
   pub sound-obeys : Sound-table G L t → All-obey G L t
   sound-obeys sound = right-obeys (sound-right sound)
 
+  -- the counts of a sound table fit
+  pub sound-fits : Sound-table G L t → Counts-fit G L
+  sound-fits sound m l p =
+      let r = sound-right sound (p .row) m (p .is-row) (omega arith) in
+      let e = unique ll (p .row) m (p .value) (p .counts) in
+      omega (arith, p .large, r .low)
+
   -- a count that stopped at m passes the limit there first
   pub first-passes : {before : List ℕ} (m : ℕ) → Stopped G L before t m → First-passes G L m
   first-passes m s = record {
@@ -173,18 +181,31 @@ module _ {G : CFG} {level : ℕ → ℕ} (ll : LL1 G level) {L : ℕ} {t : List 
         omega (arith, p .large);
   }
 
+-- where there is room, there is no fault of room
+pub room-enough : {G : CFG} {L : ℕ} {t : List ℕ} {f : Fault} → Room G L t → No-room G L (length t) f → ⊥
+room-enough r (too-long l) = omega (arith, r .small)
+room-enough r (short-cells l n) = omega (arith, r .enough)
+
+-- where there is room and the counts fit, no fault refuses the count
+pub fit-counts : {G : CFG} {L : ℕ} {t u : List ℕ} {f : Fault} → Room G L t → Counts-fit G L → Count-refused G L t u f → ⊥
+fit-counts r h (no-room n e) = room-enough r n
+fit-counts r h (too-large m o p z) = h m (p .short) (p .passes)
+
 pub one-solution : Equations-have-one-solution
 one-solution G level ll L cells = (obey-sound ll, sound-obeys ll)
 
-pub fit-below : Counts-fit-below-failure
-fit-below G level ll L m f = (pos (cases-eq m 0), λ k l p. f .first k (omega (arith, pos (cases-eq m 0))) p)
-  where
-    none-at : (ρ : Row) (k : ℕ) → Stands-for G ρ 0 k → k ≤ 1
-    none-at (Nonterminal A) k c = one-way-to-nothing G .0 A k c
-    none-at (Suffix s p) k c = one-way-to-nothing G .1 (drop p (right-of (G .slot s))) k c
+-- each count at length 0 is at most 1
+none-at : (G : CFG) (ρ : Row) (k : ℕ) → Stands-for G ρ 0 k → k ≤ 1
+none-at G (Nonterminal A) k c = one-way-to-nothing G .0 A k c
+none-at G (Suffix s p) k c = one-way-to-nothing G .1 (drop p (right-of (G .slot s))) k c
 
-    pos : (m ≡ 0) ⊎ (m ≡ 0 → ⊥) → 0 < m
-    pos (inl e) =
-        let p = f .passes in
-        absurd (omega (arith, p .large, none-at (p .row) (p .value) (subst (λ (x : ℕ). Stands-for G (p .row) x (p .value)) e (p .counts))))
-    pos (inr ne) = omega arith
+-- so none passes the limit there
+passes-later : {G : CFG} {m : ℕ} → Passes G m → 0 < m
+passes-later {m = zero} p = absurd (omega (arith, p .large, none-at _ (p .row) (p .value) (p .counts)))
+passes-later {m = suc m} p = omega arith
+
+pub fit-below : Counts-fit-below-failure
+fit-below G level ll L m f =
+    let positive = passes-later (f .passes) in
+    let fits : Counts-fit G (m - 1) = λ k l p. f .first k (omega arith) p in
+    record { positive = positive; fits = fits; not-refused = λ before after e r c. fit-counts r fits c }

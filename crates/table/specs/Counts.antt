@@ -14,11 +14,12 @@ abbrev pub Stands-for : CFG → Row → ℕ → ℕ → Type 0
 Stands-for G (Nonterminal A) m k = Count G A m k
 Stands-for G (Suffix s p) m k = Ways G (drop p (right-of (G .slot s))) m k
 
--- a table is sound if each needed cell is the count that it stands for, and none passes 2^63 - 1
+-- the cell of ρ at m is the count that it stands for, and does not pass 2^63 - 1
 pub record Sound-cell (G : CFG) (L : ℕ) (cells : List ℕ) (ρ : Row) (m : ℕ) : Type 0 where
   pub counts : Stands-for G ρ m (cell-at L cells (row-number G ρ) m)
   pub small : cell-at L cells (row-number G ρ) m < 2 ^ 63
 
+-- a table is sound if each needed cell is the count that it stands for, and none passes 2^63 - 1
 abbrev pub Sound-table : CFG → ℕ → List ℕ → Type 0
 Sound-table G L cells = (ρ : Row) (m : ℕ) → Row-of G ρ → m ≤ L → Sound-cell G L cells ρ m
 

@@ -14,7 +14,7 @@ abbrev pub suffix-cell : ℕ → List ℕ → List Symbol → ℕ → ℕ → �
 suffix-cell L cells [] r m = one-at 0 m
 suffix-cell L cells (X ∷ Xs) r m = cell-at L cells r m
 
--- what the equation of the suffix of row r says of it at m: the sum over the ways to split m between its first symbol and the rest, which has the next row
+-- what the equation of the suffix of row r says of it at m: the sum over the splits of m between its first symbol and the rest, which has the next row
 abbrev pub suffix-sum : ℕ → List ℕ → List Symbol → ℕ → ℕ → ℕ
 suffix-sum L cells [] r m = 0
 suffix-sum L cells (X ∷ Xs) r m = sum-splits (symbol-count (cell-at L cells) X) (suffix-cell L cells Xs (r + 1)) m

@@ -13,6 +13,8 @@ use Rattle.theory.specs.Sets.{Nullable, LeftCorner}
 use Rattle.theory.specs.Count.{left-of, right-of, symbol-count, count}
 use Rattle.table.specs.Rows.{Row-of, row-number, needed, cell-at}
 use Rattle.table.specs.Counts.{count-of}
+use Rattle.table.specs.Layouts.{Ready}
+use Rattle.table.specs.declared.layout.Layout.{Layout}
 use Rattle.table.specs.declared.Row.{Row}
 use Rattle.table.specs.declared.Row.the-variants.{Nonterminal, Suffix}
 
@@ -34,6 +36,12 @@ pub record Correct (G : CFG) (L : ℕ) (cells : List ℕ) (ρ : Row) (m : ℕ) :
 -- all rows are right below m
 abbrev pub Correct-below : CFG → ℕ → List ℕ → ℕ → Type 0
 Correct-below G L cells m = (ρ : Row) (k : ℕ) → Row-of G ρ → k < m → Correct G L cells ρ k
+
+-- the cells are ready to be filled for the length m: the table is, m is one of its lengths, and all rows are right below m
+pub record Ready-at (G : CFG) (layout : Layout) (cells : List ℕ) (m : ℕ) : Type 0 where
+  pub table : Ready G layout cells
+  pub short : m ≤ layout .bound
+  pub below : Correct-below G (layout .bound) cells m
 
 -- what was right before still is, and what the table does not need is as it was
 pub record Keeps (G : CFG) (L : ℕ) (before after : List ℕ) : Type 0 where

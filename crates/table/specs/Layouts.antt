@@ -9,7 +9,7 @@ use Rattle.std.specs.declared.option.Option.the-variants.{Some}
 use Rattle.theory.specs.Grammar.{CFG}
 use Rattle.theory.specs.Count.{right-of}
 use Rattle.grammar.specs.Interface.{byte-at}
-use Rattle.table.specs.Rows.{first-row, rows, Row-of, row-number}
+use Rattle.table.specs.Rows.{first-row, rows, Row-of, row-number, Room}
 use Rattle.table.specs.Equations.{equation}
 use Rattle.table.specs.Terms.{byte-sum}
 use Rattle.table.specs.declared.Row.{Row}
@@ -23,6 +23,11 @@ pub record Laid (G : CFG) (L : ℕ) (layout : Layout) : Type 0 where
   pub bound : layout .bound ≡ L
   pub rows : layout .rows ≡ rows G
   pub offsets : (s : ℕ) → s < G .slots → getD (layout .offsets) s 0 ≡ first-row G s
+
+-- the layout and the cells are those of a table of G: the layout is G's, and there are cells enough for it
+pub record Ready (G : CFG) (layout : Layout) (cells : List ℕ) : Type 0 where
+  pub laid : Laid G (layout .bound) layout
+  pub room : Room G (layout .bound) cells
 
 -- ρ is row r of G
 pub record At-row (G : CFG) (ρ : Row) (r : ℕ) : Type 0 where

@@ -19,6 +19,6 @@ byte-count L cells b j = cond (ltb b 128) (one-at 1 j) (cell-at L cells (b - 128
 abbrev pub rest-count : ℕ → List ℕ → Bool → ℕ → ℕ → ℕ
 rest-count L cells empty r k = cond empty (one-at 0 k) (cell-at L cells r k)
 
--- the sum over the ways to split m between that symbol and that rest
+-- the sum over the splits of m between that symbol and that rest
 abbrev pub byte-sum : ℕ → List ℕ → ℕ → Bool → ℕ → ℕ → ℕ
 byte-sum L cells b empty r m = sum-splits (byte-count L cells b) (rest-count L cells empty r) m

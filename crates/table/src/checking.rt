@@ -3,9 +3,9 @@
 ghost use mathlib.Core.Path.{_≡_};
 ghost use Prim.Native.Nat.{ℕ, _+_, _*_, _≤_, _<_};
 ghost use Rattle.std.specs.Options.{Cases};
-ghost use Rattle.table.specs.Rows.{first-row, place, Room};
+ghost use Rattle.table.specs.Rows.{first-row, place};
 ghost use Rattle.table.specs.Equations.{All-obey, Obey-below, Lowest-broken};
-ghost use Rattle.table.specs.Layouts.{Laid, At-row};
+ghost use Rattle.table.specs.Layouts.{Ready, At-row};
 ghost use Rattle.table.specs.Filling.{agrees-with};
 use crate::Row;
 use crate::layout::Layout;
@@ -40,8 +40,7 @@ fn check_row<G: Grammar>(
     row: Row,
     at: usize,
 ) -> Option<usize>
-    requires laid { ⌜ Laid (meaning (now g)) (now layout .bound) (now layout) ⌝ }
-    requires room { ⌜ Room (meaning (now g)) (now layout .bound) (now cells) ⌝ }
+    requires ready { ⌜ Ready (meaning (now g)) (now layout) (now cells) ⌝ }
     requires stands { ⌜ At-row (meaning (now g)) row at ⌝ }
     requires below { ⌜ Obey-below (meaning (now g)) (now layout .bound) (now cells) (place (now layout .bound) at 0) ⌝ }
     ensures { λ r. ⌜ Cases r (Obey-below (meaning (now (g .entry))) (now (layout .entry) .bound) (now (cells .entry)) (place (now (layout .entry) .bound) (at + 1) 0)) (Lowest-broken (meaning (now (g .entry))) (now (layout .entry) .bound) (now (cells .entry))) ⌝ }
@@ -58,8 +57,7 @@ fn check_row<G: Grammar>(
 
 // The lowest cell of a slot's rows that breaks its equation, where none below them does.
 fn check_slot<G: Grammar>(g: &G, layout: &Layout, cells: &[u64], s: u8) -> Option<usize>
-    requires laid { ⌜ Laid (meaning (now g)) (now layout .bound) (now layout) ⌝ }
-    requires room { ⌜ Room (meaning (now g)) (now layout .bound) (now cells) ⌝ }
+    requires ready { ⌜ Ready (meaning (now g)) (now layout) (now cells) ⌝ }
     requires inside { ⌜ s < meaning (now g) .slots ⌝ }
     requires below { ⌜ Obey-below (meaning (now g)) (now layout .bound) (now cells) (place (now layout .bound) (first-row (meaning (now g)) s) 0) ⌝ }
     ensures { λ r. ⌜ Cases r (Obey-below (meaning (now (g .entry))) (now (layout .entry) .bound) (now (cells .entry)) (place (now (layout .entry) .bound) (first-row (meaning (now (g .entry))) (s + 1)) 0)) (Lowest-broken (meaning (now (g .entry))) (now (layout .entry) .bound) (now (cells .entry))) ⌝ }
@@ -77,8 +75,7 @@ fn check_slot<G: Grammar>(g: &G, layout: &Layout, cells: &[u64], s: u8) -> Optio
 
 /// The lowest needed cell that breaks its equation, if any does.
 pub(crate) fn lowest_broken<G: Grammar>(g: &G, layout: &Layout, cells: &[u64]) -> Option<usize>
-    requires laid { ⌜ Laid (meaning (now g)) (now layout .bound) (now layout) ⌝ }
-    requires room { ⌜ Room (meaning (now g)) (now layout .bound) (now cells) ⌝ }
+    requires ready { ⌜ Ready (meaning (now g)) (now layout) (now cells) ⌝ }
     ensures { λ r. ⌜ Cases r (All-obey (meaning (now (g .entry))) (now (layout .entry) .bound) (now (cells .entry))) (Lowest-broken (meaning (now (g .entry))) (now (layout .entry) .bound) (now (cells .entry))) ⌝ }
 {
     for a in 0..g.nonterminals() {

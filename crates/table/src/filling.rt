@@ -10,12 +10,12 @@ ghost use lib.Dec.{ltb};
 ghost use lib.ListN.{length, set, take};
 ghost use Rattle.theory.specs.Sets.{Nullable};
 ghost use Rattle.theory.specs.Count.{right-of};
-ghost use Rattle.table.specs.Rows.{Row-of, place, Room};
+ghost use Rattle.table.specs.Rows.{Row-of, place};
 ghost use Rattle.table.specs.Equations.{equation};
 ghost use Rattle.table.specs.Terms.{byte-count};
 ghost use Rattle.table.specs.Counts.{count-of};
-ghost use Rattle.table.specs.Layouts.{Laid, At-row};
-ghost use Rattle.table.specs.Filling.{Correct, Correct-below, Keeps, Unless-over, Firsts-correct, Needs-no-rest, Corners-correct, Leading-correct, Prefix-correct-of, Done, All-done};
+ghost use Rattle.table.specs.Layouts.{Ready, At-row};
+ghost use Rattle.table.specs.Filling.{Correct, Correct-below, Ready-at, Keeps, Unless-over, Firsts-correct, Needs-no-rest, Corners-correct, Leading-correct, Prefix-correct-of, Done, All-done};
 use crate::Row;
 use crate::layout::Layout;
 use crate::sums::cell;
@@ -40,8 +40,7 @@ fn fill<G: Grammar>(
     at: usize,
     m: usize,
 ) -> bool
-    requires laid { ⌜ Laid (meaning (now g)) (now layout .bound) (now layout) ⌝ }
-    requires room { ⌜ Room (meaning (now g)) (now layout .bound) (now cells) ⌝ }
+    requires ready { ⌜ Ready (meaning (now g)) (now layout) (now cells) ⌝ }
     requires short { ⌜ m ≤ now layout .bound ⌝ }
     requires stands { ⌜ At-row (meaning (now g)) row at ⌝ }
     requires due { ⌜ equation (meaning (now g)) (now layout .bound) (now cells) row m ≡ count-of (meaning (now g)) row m ⌝ }
@@ -66,12 +65,9 @@ fn fill_suffixes<G: Grammar>(
     to: u8,
     m: usize,
 ) -> bool
-    requires laid { ⌜ Laid (meaning (now g)) (now layout .bound) (now layout) ⌝ }
-    requires room { ⌜ Room (meaning (now g)) (now layout .bound) (now cells) ⌝ }
-    requires short { ⌜ m ≤ now layout .bound ⌝ }
+    requires ready { ⌜ Ready-at (meaning (now g)) (now layout) (now cells) m ⌝ }
     requires inside { ⌜ s < meaning (now g) .slots ⌝ }
     requires far { ⌜ to ≤ length (right-of (meaning (now g) .slot s)) ⌝ }
-    requires below { ⌜ Correct-below (meaning (now g)) (now layout .bound) (now cells) m ⌝ }
     requires firsts { ⌜ Firsts-correct (meaning (now g)) (now layout .bound) (now cells) (right-of (meaning (now g) .slot s)) to m ⌝ }
     requires last { ⌜ ((p : ℕ) → p + 1 ≡ to → Needs-no-rest (meaning (now g)) (right-of (meaning (now g) .slot s)) p) ⌝ }
     ensures keeps { λ _. ⌜ Keeps (meaning (now (g .entry))) (now (layout .entry) .bound) (now (cells .entry)) (now (cells .exit)) ⌝ }
@@ -97,7 +93,7 @@ fn is_nullable(bound: usize, cells: &[u64], symbol: u8) -> bool
 
 // The position in slot `s` of the first symbol that is not nullable, or else the last position.
 fn prefix_end<G: Grammar>(g: &G, layout: &Layout, cells: &[u64], s: u8) -> u8
-    requires room { ⌜ Room (meaning (now g)) (now layout .bound) (now cells) ⌝ }
+    requires ready { ⌜ Ready (meaning (now g)) (now layout) (now cells) ⌝ }
     requires inside { ⌜ s < meaning (now g) .slots ⌝ }
     requires some { ⌜ 0 < length (right-of (meaning (now g) .slot s)) ⌝ }
     requires leaders { ⌜ Leading-correct (meaning (now g)) (now layout .bound) (now cells) (right-of (meaning (now g) .slot s)) 0 ⌝ }
@@ -118,12 +114,16 @@ fn prefix_end<G: Grammar>(g: &G, layout: &Layout, cells: &[u64], s: u8) -> u8
 }
 
 // Writes the suffixes of slot `s` that its left-hand side, if that is `a`, needs for the length `m`; false where a count passes the limit.
-fn fill_prefix<G: Grammar>(g: &G, layout: &Layout, cells: &mut [u64], a: u8, s: u8, m: usize) -> bool
-    requires laid { ⌜ Laid (meaning (now g)) (now layout .bound) (now layout) ⌝ }
-    requires room { ⌜ Room (meaning (now g)) (now layout .bound) (now cells) ⌝ }
-    requires short { ⌜ m ≤ now layout .bound ⌝ }
+fn fill_prefix<G: Grammar>(
+    g: &G,
+    layout: &Layout,
+    cells: &mut [u64],
+    a: u8,
+    s: u8,
+    m: usize,
+) -> bool
+    requires ready { ⌜ Ready-at (meaning (now g)) (now layout) (now cells) m ⌝ }
     requires inside { ⌜ s < meaning (now g) .slots ⌝ }
-    requires below { ⌜ Correct-below (meaning (now g)) (now layout .bound) (now cells) m ⌝ }
     requires corners { ⌜ Corners-correct (meaning (now g)) (now layout .bound) (now cells) a m ⌝ }
     ensures keeps { λ _. ⌜ Keeps (meaning (now (g .entry))) (now (layout .entry) .bound) (now (cells .entry)) (now (cells .exit)) ⌝ }
     ensures done { λ r. ⌜ Unless-over r (meaning (now (g .entry))) m (Prefix-correct-of (meaning (now (g .entry))) (now (layout .entry) .bound) (now (cells .exit)) a m s) ⌝ }
@@ -139,11 +139,8 @@ fn fill_prefix<G: Grammar>(g: &G, layout: &Layout, cells: &mut [u64], a: u8, s: 
 
 // Writes the cell of the nonterminal `a` for the length `m`, with the suffixes that it needs; false where a count passes the limit.
 fn fill_nonterminal<G: Grammar>(g: &G, layout: &Layout, cells: &mut [u64], a: u8, m: usize) -> bool
-    requires laid { ⌜ Laid (meaning (now g)) (now layout .bound) (now layout) ⌝ }
-    requires room { ⌜ Room (meaning (now g)) (now layout .bound) (now cells) ⌝ }
-    requires short { ⌜ m ≤ now layout .bound ⌝ }
+    requires ready { ⌜ Ready-at (meaning (now g)) (now layout) (now cells) m ⌝ }
     requires inside { ⌜ a < meaning (now g) .nonterminals ⌝ }
-    requires below { ⌜ Correct-below (meaning (now g)) (now layout .bound) (now cells) m ⌝ }
     requires corners { ⌜ Corners-correct (meaning (now g)) (now layout .bound) (now cells) a m ⌝ }
     ensures keeps { λ _. ⌜ Keeps (meaning (now (g .entry))) (now (layout .entry) .bound) (now (cells .entry)) (now (cells .exit)) ⌝ }
     ensures done { λ r. ⌜ Unless-over r (meaning (now (g .entry))) m (Done (meaning (now (g .entry))) (now (layout .entry) .bound) (now (cells .exit)) m a) ⌝ }
@@ -158,10 +155,7 @@ fn fill_nonterminal<G: Grammar>(g: &G, layout: &Layout, cells: &mut [u64], a: u8
 
 // Writes the cells of all nonterminals for the length `m`, by ascending level, with the suffixes that they need; false where a count passes the limit.
 fn fill_nonterminals<G: Grammar>(g: &G, layout: &Layout, cells: &mut [u64], m: usize) -> bool
-    requires laid { ⌜ Laid (meaning (now g)) (now layout .bound) (now layout) ⌝ }
-    requires room { ⌜ Room (meaning (now g)) (now layout .bound) (now cells) ⌝ }
-    requires short { ⌜ m ≤ now layout .bound ⌝ }
-    requires below { ⌜ Correct-below (meaning (now g)) (now layout .bound) (now cells) m ⌝ }
+    requires ready { ⌜ Ready-at (meaning (now g)) (now layout) (now cells) m ⌝ }
     ensures keeps { λ _. ⌜ Keeps (meaning (now (g .entry))) (now (layout .entry) .bound) (now (cells .entry)) (now (cells .exit)) ⌝ }
     ensures done { λ r. ⌜ Unless-over r (meaning (now (g .entry))) m (All-done (meaning (now (g .entry))) (now (layout .entry) .bound) (now (cells .exit)) m) ⌝ }
 {
@@ -179,11 +173,8 @@ fn fill_nonterminals<G: Grammar>(g: &G, layout: &Layout, cells: &mut [u64], m: u
 
 // Writes the suffixes of slot `s` for the length `m` that its left-hand side did not need; false where a count passes the limit.
 fn fill_rest<G: Grammar>(g: &G, layout: &Layout, cells: &mut [u64], s: u8, m: usize) -> bool
-    requires laid { ⌜ Laid (meaning (now g)) (now layout .bound) (now layout) ⌝ }
-    requires room { ⌜ Room (meaning (now g)) (now layout .bound) (now cells) ⌝ }
-    requires short { ⌜ m ≤ now layout .bound ⌝ }
+    requires ready { ⌜ Ready-at (meaning (now g)) (now layout) (now cells) m ⌝ }
     requires inside { ⌜ s < meaning (now g) .slots ⌝ }
-    requires below { ⌜ Correct-below (meaning (now g)) (now layout .bound) (now cells) m ⌝ }
     requires prefixes { ⌜ All-done (meaning (now g)) (now layout .bound) (now cells) m ⌝ }
     ensures keeps { λ _. ⌜ Keeps (meaning (now (g .entry))) (now (layout .entry) .bound) (now (cells .entry)) (now (cells .exit)) ⌝ }
     ensures done { λ r. ⌜ Unless-over r (meaning (now (g .entry))) m ((q : ℕ) → q < length (right-of (meaning (now (g .entry)) .slot s)) → Correct (meaning (now (g .entry))) (now (layout .entry) .bound) (now (cells .exit)) (Row.Suffix s q) m) ⌝ }
@@ -198,10 +189,7 @@ fn fill_rest<G: Grammar>(g: &G, layout: &Layout, cells: &mut [u64], s: u8, m: us
 
 // Writes the suffixes of all slots for the length `m` that the nonterminals did not need; false where a count passes the limit.
 fn fill_rests<G: Grammar>(g: &G, layout: &Layout, cells: &mut [u64], m: usize) -> bool
-    requires laid { ⌜ Laid (meaning (now g)) (now layout .bound) (now layout) ⌝ }
-    requires room { ⌜ Room (meaning (now g)) (now layout .bound) (now cells) ⌝ }
-    requires short { ⌜ m ≤ now layout .bound ⌝ }
-    requires below { ⌜ Correct-below (meaning (now g)) (now layout .bound) (now cells) m ⌝ }
+    requires ready { ⌜ Ready-at (meaning (now g)) (now layout) (now cells) m ⌝ }
     requires prefixes { ⌜ All-done (meaning (now g)) (now layout .bound) (now cells) m ⌝ }
     ensures keeps { λ _. ⌜ Keeps (meaning (now (g .entry))) (now (layout .entry) .bound) (now (cells .entry)) (now (cells .exit)) ⌝ }
     ensures done { λ r. ⌜ Unless-over r (meaning (now (g .entry))) m ((s q : ℕ) → Row-of (meaning (now (g .entry))) (Row.Suffix s q) → Correct (meaning (now (g .entry))) (now (layout .entry) .bound) (now (cells .exit)) (Row.Suffix s q) m) ⌝ }
@@ -216,10 +204,7 @@ fn fill_rests<G: Grammar>(g: &G, layout: &Layout, cells: &mut [u64], m: usize) -
 
 /// Writes all cells for the length `m`; false where a count passes the limit.
 pub(crate) fn fill_length<G: Grammar>(g: &G, layout: &Layout, cells: &mut [u64], m: usize) -> bool
-    requires laid { ⌜ Laid (meaning (now g)) (now layout .bound) (now layout) ⌝ }
-    requires room { ⌜ Room (meaning (now g)) (now layout .bound) (now cells) ⌝ }
-    requires short { ⌜ m ≤ now layout .bound ⌝ }
-    requires below { ⌜ Correct-below (meaning (now g)) (now layout .bound) (now cells) m ⌝ }
+    requires ready { ⌜ Ready-at (meaning (now g)) (now layout) (now cells) m ⌝ }
     ensures keeps { λ _. ⌜ Keeps (meaning (now (g .entry))) (now (layout .entry) .bound) (now (cells .entry)) (now (cells .exit)) ⌝ }
     ensures done { λ r. ⌜ Unless-over r (meaning (now (g .entry))) m (Correct-below (meaning (now (g .entry))) (now (layout .entry) .bound) (now (cells .exit)) (m + 1)) ⌝ }
 {

@@ -4,8 +4,7 @@ ghost use mathlib.Core.Path.{_≡_};
 ghost use Prim.Native.Nat.{ℕ, _≤_, _<_};
 ghost use lib.ListN.{length};
 ghost use Rattle.std.specs.Results.{Cases};
-ghost use Rattle.table.specs.Rows.{Room};
-ghost use Rattle.table.specs.Layouts.{Laid};
+ghost use Rattle.table.specs.Layouts.{Ready};
 ghost use Rattle.table.specs.Calls.{Zeroed, Released, Filled, Stopped};
 use crate::filling::fill_length;
 use crate::layout::Layout;
@@ -21,7 +20,7 @@ fn zero(cells: &mut [u64], n: usize)
     }
 }
 
-/// Holds the cells of a table while it is counted. Let go before the count is accepted, it writes 0 into the needed cells.
+/// Holds the cells of a table while it is counted. Dropped before the count is accepted, it writes 0 into the needed cells.
 pub(crate) struct Counting<'a> {
     pub(crate) cells: &'a mut [u64],
     pub(crate) needed: usize,
@@ -51,8 +50,7 @@ pub(crate) fn count_cells<G: Grammar>(
     layout: &Layout,
     cells: &mut [u64],
 ) -> Result<(), usize>
-    requires laid { ⌜ Laid (meaning (now g)) (now layout .bound) (now layout) ⌝ }
-    requires room { ⌜ Room (meaning (now g)) (now layout .bound) (now cells) ⌝ }
+    requires ready { ⌜ Ready (meaning (now g)) (now layout) (now cells) ⌝ }
     ensures { λ r. ⌜ Cases r (λ _. Filled (meaning (now (g .entry))) (now (layout .entry) .bound) (now (cells .entry)) (now (cells .exit))) (Stopped (meaning (now (g .entry))) (now (layout .entry) .bound) (now (cells .entry)) (now (cells .exit))) ⌝ }
 {
     let mut counting = Counting {

@@ -1,15 +1,10 @@
-//! The table of counts: how many sentences each nonterminal has of each length, and in how many ways each suffix of a right-hand side gives it.
+//! The table of counts: how many sentences each nonterminal has of each length, and how many ways each suffix of a right-hand side has at that length.
 //!
 //! A table for the bound L has a row for each nonterminal, then for each filled slot in order a row for each suffix of its right-hand side but the empty one.
 //! A row holds a cell for each of the lengths 0 to L.
 
-ghost use mathlib.Core.Path.{_≡_};
-ghost use Prim.Native.Nat.{ℕ};
-ghost use lib.ListN.{length};
 ghost use Rattle.std.specs.Results.{Cases};
-ghost use Rattle.table.specs.Rows.{needed, Room};
-ghost use Rattle.table.specs.Counts.{Sound-table};
-ghost use Rattle.table.specs.Calls.{No-room, Has-room, Counted, Count-refused, Check-refused};
+ghost use Rattle.table.specs.Calls.{No-room, Has-room, Needed-answer, Count-answer, Check-answer};
 ghost use Rattle.table.specs.Laws.{Equations-have-one-solution, Counts-fit-below-failure};
 use checking::lowest_broken;
 use fault::Fault;
@@ -29,6 +24,8 @@ mod sums;
 pub const GREATEST_BOUND: usize = 48;
 
 /// What a row of a table counts: a nonterminal, or a suffix, the right-hand side of a slot from a position on.
+///
+/// No call takes or gives one: it is public for the definitions that speak of rows.
 #[derive(Clone, Copy)]
 pub enum Row {
     Nonterminal(u8),
@@ -60,18 +57,18 @@ fn room<G: Grammar>(g: &G, bound: usize, cells: usize) -> Result<Layout, Fault>
 ///
 /// Fault 9 if the bound is above 48, place the bound; 10 if there are too few cells, place 1.
 pub fn needed_cells<G: Grammar>(g: &G, table: &Table<'_>) -> Result<usize, Fault>
-    ensures { λ r. ⌜ Cases r (λ n. Room (meaning (now (g .entry))) (now (table .entry) .bound) (now (now (table .entry) .cells)) × (n ≡ needed (meaning (now (g .entry))) (now (table .entry) .bound))) (No-room (meaning (now (g .entry))) (now (table .entry) .bound) (length (now (now (table .entry) .cells)))) ⌝ }
+    ensures { λ r. ⌜ Needed-answer (meaning (now (g .entry))) (now (table .entry) .bound) (now (now (table .entry) .cells)) r ⌝ }
 {
     let layout = room(g, table.bound, table.cells.len())?;
     Ok(layout.rows * (table.bound + 1))
 }
 
-/// Fills the needed cells with the counts: each is how many sentences its nonterminal has of its length, or in how many ways its suffix gives it.
+/// Fills the needed cells with the counts: each is how many sentences its nonterminal has of its length, or how many ways its suffix has at that length.
 ///
 /// Fault 9 if the bound is above 48, place the bound; 10 if there are too few cells, place 1; 11 if a count passes 2^63 - 1, place the smallest such length.
-/// After 11 the needed cells are 0; after 9 and 10 all stand. The cells past the needed ones always stand.
+/// After 11 the needed cells are 0; after 9 and 10 all cells are unchanged. The cells past the needed ones are always unchanged.
 pub fn count<G: Grammar>(g: &G, table: Table<'_>) -> Result<(), Fault>
-    ensures { λ r. ⌜ Cases r (λ _. Counted (meaning (now (g .entry))) (table .entry .bound) (now (table .entry .cells)) (now (table .exit .0))) (Count-refused (meaning (now (g .entry))) (table .entry .bound) (now (table .entry .cells)) (now (table .exit .0))) ⌝ }
+    ensures { λ r. ⌜ Count-answer (meaning (now (g .entry))) (table .entry .bound) (now (table .entry .cells)) (now (table .exit .0)) r ⌝ }
 {
     let Table { cells, bound } = table;
     let layout = room(g, bound, cells.len())?;
@@ -85,7 +82,7 @@ pub fn count<G: Grammar>(g: &G, table: Table<'_>) -> Result<(), Fault>
 ///
 /// Fault 9 if the bound is above 48, place the bound; 10 if there are too few cells, place 1; 12 if a needed cell breaks its equation, place the lowest such cell.
 pub fn check<G: Grammar>(g: &G, table: &Table<'_>) -> Result<(), Fault>
-    ensures { λ r. ⌜ Cases r (λ _. Room (meaning (now (g .entry))) (now (table .entry) .bound) (now (now (table .entry) .cells)) × Sound-table (meaning (now (g .entry))) (now (table .entry) .bound) (now (now (table .entry) .cells))) (Check-refused (meaning (now (g .entry))) (now (table .entry) .bound) (now (now (table .entry) .cells))) ⌝ }
+    ensures { λ r. ⌜ Check-answer (meaning (now (g .entry))) (now (table .entry) .bound) (now (now (table .entry) .cells)) r ⌝ }
 {
     let layout = room(g, table.bound, table.cells.len())?;
     match lowest_broken(g, &layout, table.cells) {
@@ -99,7 +96,7 @@ pub fn equations_have_one_solution()
     ensures { λ _. ⌜ Equations-have-one-solution ⌝ }
 {}
 
-/// Where counting for a bound fails at a length, counting for one less than that length succeeds.
+/// Where counting for a bound fails at a length, counting for one less than that length succeeds: no count passes the limit, and with room no fault refuses it.
 pub fn counts_fit_below_failure()
     ensures { λ _. ⌜ Counts-fit-below-failure ⌝ }
 {}

@@ -5,10 +5,10 @@ ghost use mathlib.Core.Bool.{Bool, true, false};
 ghost use Prim.Native.Nat.{ℕ, _+_, _-_, _*_, _^_, _≤_, _<_};
 ghost use lib.ListN.{length, getD};
 ghost use Rattle.theory.specs.Count.{left-of, right-of, if-left, sum-splits};
-ghost use Rattle.table.specs.Rows.{first-row, Row-of, place, cell-at, Room};
+ghost use Rattle.table.specs.Rows.{first-row, Row-of, place, cell-at};
 ghost use Rattle.table.specs.Equations.{suffix-cell, equation};
 ghost use Rattle.table.specs.Terms.{from-cell, rest-count, byte-sum};
-ghost use Rattle.table.specs.Layouts.{Laid, Read-of, read-sum, Terms-row};
+ghost use Rattle.table.specs.Layouts.{Ready, Read-of, read-sum, Terms-row};
 ghost use Rattle.table.specs.Filling.{Within};
 use crate::Row;
 use crate::layout::Layout;
@@ -70,7 +70,7 @@ fn terminal_sum(bound: usize, cells: &[u64], empty: bool, rest: usize, m: usize)
     }
 }
 
-// The sum over the ways to split `m` between the symbol with that byte and the rest behind it, which has the row `rest` unless it is empty.
+// The sum over the splits of `m` between the symbol with that byte and the rest behind it, which has the row `rest` unless it is empty.
 fn suffix_sum(
     bound: usize,
     cells: &[u64],
@@ -121,8 +121,7 @@ pub(crate) fn terms_of<G: Grammar>(g: &G, row: Row) -> Terms
 
 // What the cells say of the right-hand side of slot `s` at `m`, if it is one of a's, else 0.
 fn slot_count<G: Grammar>(g: &G, layout: &Layout, cells: &[u64], a: u8, s: u8, m: usize) -> u64
-    requires laid { ⌜ Laid (meaning (now g)) (now layout .bound) (now layout) ⌝ }
-    requires room { ⌜ Room (meaning (now g)) (now layout .bound) (now cells) ⌝ }
+    requires ready { ⌜ Ready (meaning (now g)) (now layout) (now cells) ⌝ }
     requires short { ⌜ m ≤ now layout .bound ⌝ }
     requires inside { ⌜ s < meaning (now g) .slots ⌝ }
     ensures { λ r. ⌜ r ≡ if-left (left-of (meaning (now (g .entry)) .slot s)) a (suffix-cell (now (layout .entry) .bound) (now (cells .entry)) (right-of (meaning (now (g .entry)) .slot s)) (first-row (meaning (now (g .entry))) s) m) ⌝ }
@@ -138,8 +137,7 @@ fn slot_count<G: Grammar>(g: &G, layout: &Layout, cells: &[u64], a: u8, s: u8, m
 
 // The sum at `m` over the slots of `a`.
 fn slots_sum<G: Grammar>(g: &G, layout: &Layout, cells: &[u64], a: u8, m: usize) -> Option<u64>
-    requires laid { ⌜ Laid (meaning (now g)) (now layout .bound) (now layout) ⌝ }
-    requires room { ⌜ Room (meaning (now g)) (now layout .bound) (now cells) ⌝ }
+    requires ready { ⌜ Ready (meaning (now g)) (now layout) (now cells) ⌝ }
     requires short { ⌜ m ≤ now layout .bound ⌝ }
     ensures { λ r. ⌜ Within (equation (meaning (now (g .entry))) (now (layout .entry) .bound) (now (cells .entry)) (Row.Nonterminal a) m) r ⌝ }
 {
@@ -159,8 +157,7 @@ pub(crate) fn sum_of<G: Grammar>(
     at: usize,
     m: usize,
 ) -> Option<u64>
-    requires laid { ⌜ Laid (meaning (now g)) (now layout .bound) (now layout) ⌝ }
-    requires room { ⌜ Room (meaning (now g)) (now layout .bound) (now cells) ⌝ }
+    requires ready { ⌜ Ready (meaning (now g)) (now layout) (now cells) ⌝ }
     requires short { ⌜ m ≤ now layout .bound ⌝ }
     requires row { ⌜ Terms-row (meaning (now g)) terms at ⌝ }
     ensures { λ r. ⌜ Within (read-sum (meaning (now (g .entry))) (now (layout .entry) .bound) (now (cells .entry)) terms at m) r ⌝ }

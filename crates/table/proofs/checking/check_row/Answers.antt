@@ -9,14 +9,13 @@ pub cell-held-requires : need.cell-held-requires
 cell-held-requires g c κs =
     let f = g .G·Grammar·met .implements (c .args .g .now) in
     let low = row-small (f .limits) (c .pre .stands) in
-    (c .pre .room .small, (omega arith, (omega arith, row-cell (c .pre .room) (c .pre .stands) (c .loop-m .m) (omega arith))))
+    (c .pre .ready .room .small, (omega arith, (omega arith, row-cell (c .pre .ready .room) (c .pre .stands) (c .loop-m .m) (omega arith))))
 
 pub sum-of-requires : need.sum-of-requires
 sum-of-requires g c κs =
     let f = g .G·Grammar·met .implements (c .args .g .now) in
     record {
-      laid = c .pre .laid;
-      room = c .pre .room;
+      ready = c .pre .ready;
       short = omega arith;
       row = read-rows (f .limits) (c .terms-of-terms .result) (c .pre .stands) (c .terms-of-terms .ensures);
     }
@@ -25,7 +24,7 @@ pub cell-number-requires : need.cell-number-requires
 cell-number-requires g c κs =
     let f = g .G·Grammar·met .implements (c .args .g .now) in
     let low = row-small (f .limits) (c .pre .stands) in
-    (c .pre .room .small, (omega arith, omega arith))
+    (c .pre .ready .room .small, (omega arith, omega arith))
 
 pub returns-then-not-agrees : need.returns-then-not-agrees
 returns-then-not-agrees g c =

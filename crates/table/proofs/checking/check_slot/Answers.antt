@@ -9,7 +9,7 @@ use Rattle.table.proofs.checking.check_slot.Needs as need
 pub loop-position-holds : need.loop-position-holds
 loop-position-holds g c =
     let G = g .G·Grammar .meaning (c .args .g .now) in
-    let e = c .pre .laid .offsets (c .args .s) (c .pre .inside) in
+    let e = c .pre .ready .laid .offsets (c .args .s) (c .pre .inside) in
     (omega arith, subst (λ (r : ℕ). Obey-below G (c .args .layout .now .bound) (c .args .cells .now) (place (c .args .layout .now .bound) r 0)) (sym e) (c .pre .below))
 
 pub add-at : need.add-at

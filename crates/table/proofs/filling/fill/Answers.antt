@@ -12,8 +12,7 @@ pub sum-of-requires : need.sum-of-requires
 sum-of-requires g c κs =
     let f = g .G·Grammar·met .implements (c .args .g .now) in
     record {
-      laid = c .pre .laid;
-      room = c .pre .room;
+      ready = c .pre .ready;
       short = c .pre .short;
       row = read-rows (f .limits) (c .terms-of-terms .result) (c .pre .stands) (c .terms-of-terms .ensures);
     }
@@ -22,7 +21,7 @@ pub put-requires : need.put-requires
 put-requires g c κs =
     let f = g .G·Grammar·met .implements (c .args .g .now) in
     let few = row-small (f .limits) (c .pre .stands) in
-    (c .pre .room .small, (omega arith, (c .pre .short, row-cell (c .pre .room) (c .pre .stands) (c .args .m) (c .pre .short))))
+    (c .pre .ready .room .small, (omega arith, (c .pre .short, row-cell (c .pre .ready .room) (c .pre .stands) (c .args .m) (c .pre .short))))
 
 pub returns-in-rest : need.returns-in-rest
 returns-in-rest g c =
@@ -41,6 +40,6 @@ returns g c =
     let is = read-is (f .limits) (c .args .layout .now .bound) (c .args .cells .now) (c .terms-of-terms .result) (c .pre .stands) (c .terms-of-terms .ensures) (c .args .m) ∙ c .pre .due in
     let low = subst (λ (n : ℕ). n < 2 ^ 63) is (got .1) in
     record {
-      keeps = subst (λ (u : List ℕ). Keeps G (c .args .layout .now .bound) (c .args .cells .now) u) (sym (c .put .ensures)) (put-keeps (c .pre .room) (c .pre .stands) (c .args .m) (c .in-Some .value) (c .pre .short) (got .0 ∙ is) low);
-      done = subst (λ (u : List ℕ). Correct G (c .args .layout .now .bound) u (c .args .row) (c .args .m)) (sym (c .put .ensures)) (put-right (c .pre .room) (c .pre .stands) (c .args .m) (c .in-Some .value) (c .pre .short) (got .0 ∙ is) low);
+      keeps = subst (λ (u : List ℕ). Keeps G (c .args .layout .now .bound) (c .args .cells .now) u) (sym (c .put .ensures)) (put-keeps (c .pre .ready .room) (c .pre .stands) (c .args .m) (c .in-Some .value) (c .pre .short) (got .0 ∙ is) low);
+      done = subst (λ (u : List ℕ). Correct G (c .args .layout .now .bound) u (c .args .row) (c .args .m)) (sym (c .put .ensures)) (put-right (c .pre .ready .room) (c .pre .stands) (c .args .m) (c .in-Some .value) (c .pre .short) (got .0 ∙ is) low);
     }

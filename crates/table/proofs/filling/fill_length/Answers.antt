@@ -1,15 +1,12 @@
 use native.Mathlib.Omega.{arith}
-use Rattle.table.proofs.Fills.{keeps-on, keeps-room, keeps-below, one-more}
+use Rattle.table.proofs.Fills.{keeps-on, keeps-ready, one-more}
 use Rattle.table.proofs.filling.fill_length.Needs as need
 
 pub fill-rests-requires : need.fill-rests-requires
 fill-rests-requires g c κs =
     let got = c .if-fill-nonterminals .ensures tt in
     record {
-      laid = c .pre .laid;
-      room = keeps-room (got .keeps) (c .pre .room);
-      short = c .pre .short;
-      below = keeps-below (got .keeps) (omega arith) (c .pre .below);
+      ready = keeps-ready (got .keeps) (c .pre .ready);
       prefixes = got .done;
     }
 
@@ -19,5 +16,5 @@ returns-then-fill-nonterminals g c =
     let end = c .fill-rests .ensures in
     record {
       keeps = keeps-on (got .keeps) (end .keeps);
-      done = one-more (c .fill-rests .result) (c .pre .short) (c .pre .below) (got .keeps) (end .keeps) (got .done) (end .done);
+      done = one-more (c .fill-rests .result) (c .pre .ready .short) (c .pre .ready .below) (got .keeps) (end .keeps) (got .done) (end .done);
     }

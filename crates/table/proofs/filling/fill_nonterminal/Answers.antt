@@ -5,7 +5,7 @@ use borrow.Author.Count.{below-more}
 use Rattle.grammar.proofs.Derived.{ll1-of}
 use Rattle.table.specs.Filling.{Prefix-correct-of}
 use Rattle.table.specs.declared.Row.the-variants.{Nonterminal, Suffix}
-use Rattle.table.proofs.Fills.{keeps-all, keeps-on, keeps-room, keeps-below, keeps-prefix, done-more}
+use Rattle.table.proofs.Fills.{keeps-on, keeps-table, keeps-ready, keeps-prefix, done-more}
 use Rattle.table.proofs.Due.{nonterminal-due}
 use Rattle.table.proofs.filling.fill_nonterminal.Needs as need
 
@@ -13,12 +13,9 @@ pub fill-prefix-requires : need.fill-prefix-requires
 fill-prefix-requires g c κs =
     let k = c .loop-s .inv .0 in
     record {
-      laid = c .pre .laid;
-      room = keeps-room k (c .pre .room);
-      short = c .pre .short;
+      ready = keeps-ready k (c .pre .ready);
       inside = omega arith;
-      below = keeps-below k (omega arith) (c .pre .below);
-      corners = λ B l e. k .still (Nonterminal B) (c .args .m) l (c .pre .short) (c .pre .corners B l e);
+      corners = λ B l e. k .still (Nonterminal B) (c .args .m) l (c .pre .ready .short) (c .pre .corners B l e);
     }
 
 pub returns-then-not-fill-prefix : need.returns-then-not-fill-prefix
@@ -30,7 +27,7 @@ loop-s-again g c =
     let got = c .if-not-fill-prefix .ensures tt in (
       keeps-on (c .loop-s .inv .0) (got .keeps),
       below-more (Prefix-correct-of G (c .args .layout .now .bound) (c .fill-prefix .last .cells) (c .args .a) (c .args .m)) (c .loop-s .s)
-          (λ q l. keeps-prefix (got .keeps) (c .pre .short) (omega arith) (c .loop-s .inv .1 q l))
+          (λ q l. keeps-prefix (got .keeps) (c .pre .ready .short) (omega arith) (c .loop-s .inv .1 q l))
           (got .done),
     )
 
@@ -38,9 +35,8 @@ pub fill-requires : need.fill-requires
 fill-requires g c κs =
     let f = g .G·Grammar·met .implements (c .args .g .now) in
     record {
-      laid = c .pre .laid;
-      room = keeps-room (c .loop-s .inv .0) (c .pre .room);
-      short = c .pre .short;
+      ready = keeps-table (c .loop-s .inv .0) (c .pre .ready .table);
+      short = c .pre .ready .short;
       stands = record { is-row = c .pre .inside; is = refl };
       due = nonterminal-due (ll1-of f) (c .args .a) (c .args .m) (λ q l. c .loop-s .inv .1 q (omega arith));
     }
@@ -50,5 +46,5 @@ returns g c =
     let end = c .fill .ensures in
     record {
       keeps = keeps-on (c .loop-s .inv .0) (end .keeps);
-      done = done-more (c .fill .result) (c .pre .short) (end .keeps) (λ q l. c .loop-s .inv .1 q (omega arith)) (end .done);
+      done = done-more (c .fill .result) (c .pre .ready .short) (end .keeps) (λ q l. c .loop-s .inv .1 q (omega arith)) (end .done);
     }

@@ -5,7 +5,7 @@ use Prim.Native.Nat.{ℕ, _+_, _≤_, _<_}
 use native.Mathlib.Omega.{arith}
 use Rattle.std.proofs.shelf.Tests.{cases-eq}
 use Rattle.table.specs.Filling.{Keeps, Done}
-use Rattle.table.proofs.Fills.{keeps-all, keeps-on, keeps-room, keeps-below, keeps-done}
+use Rattle.table.proofs.Fills.{keeps-all, keeps-on, keeps-ready, keeps-done}
 use Rattle.table.proofs.filling.fill_nonterminals.Needs.{then-level·else-not-fill-nonterminal, else-level}
 use Rattle.table.proofs.filling.fill_nonterminals.Needs as need
 
@@ -17,11 +17,8 @@ fill-nonterminal-requires g c κs =
     let f = g .G·Grammar·met .implements (c .args .g .now) in
     let k = keeps-on (c .loop-level .inv .0) (c .loop-a .inv .0) in
     record {
-      laid = c .pre .laid;
-      room = keeps-room k (c .pre .room);
-      short = c .pre .short;
+      ready = keeps-ready k (c .pre .ready);
       inside = omega arith;
-      below = keeps-below k (omega arith) (c .pre .below);
       corners = λ B l e. c .loop-a .inv .1 B l (omega (arith, f .levels .falls (c .loop-a .a) B e, c .level .ensures, c .if-level .taken)) .count;
     }
 
@@ -43,9 +40,9 @@ loop-a-again g c =
           let got = w .if-not-fill-nonterminal .ensures tt in
           subst P (sym (w .cells-is)) (
             keeps-on (c .loop-a .inv .0) (got .keeps),
-            (λ B l o. keeps-done (got .keeps) (c .pre .short) l (c .loop-a .inv .1 B l o)),
+            (λ B l o. keeps-done (got .keeps) (c .pre .ready .short) l (c .loop-a .inv .1 B l o)),
             (λ B l o. ⊎-elim (λ e. subst (λ (x : ℕ). D (w .fill-nonterminal .last .cells) x) (sym e) (got .done))
-                (λ ne. keeps-done (got .keeps) (c .pre .short) (omega arith) (c .loop-a .inv .2 B (omega arith) o))
+                (λ ne. keeps-done (got .keeps) (c .pre .ready .short) (omega arith) (c .loop-a .inv .2 B (omega arith) o))
                 (cases-eq B (c .loop-a .a))),
           )
       | else-level w ↦

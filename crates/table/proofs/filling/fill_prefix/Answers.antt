@@ -7,7 +7,6 @@ use Rattle.theory.specs.Count.{right-of}
 use Rattle.grammar.proofs.Derived.{ll1-of}
 use Rattle.table.specs.Filling.{Needs-no-rest}
 use Rattle.table.proofs.Prefix.{leaders-of, leaders-zero, firsts-of, prefix-done}
-use Rattle.table.proofs.Fills.{keeps-all}
 use Rattle.table.proofs.filling.fill_prefix.Needs as need
 
 pub prefix-end-end-requires : need.prefix-end-end-requires
@@ -15,10 +14,10 @@ prefix-end-end-requires g c κs =
     let f = g .G·Grammar·met .implements (c .args .g .now) in
     let left = sym (c .in-Some .ensures tt) ∙ ap Some (c .if-b-a .taken) in
     record {
-      room = c .pre .room;
+      ready = c .pre .ready .table;
       inside = c .pre .inside;
       some = omega arith;
-      leaders = leaders-zero (f .limits) (c .pre .below) (c .args .s) (leaders-of (f .limits) (c .args .a) (c .args .m) (c .args .s) (c .pre .corners) left);
+      leaders = leaders-zero (f .limits) (c .pre .ready .below) (c .args .s) (leaders-of (f .limits) (c .args .a) (c .args .m) (c .args .s) (c .pre .corners) left);
     }
 
 pub fill-suffixes-requires : need.fill-suffixes-requires
@@ -29,12 +28,9 @@ fill-suffixes-requires g c κs =
     let left = sym (c .in-Some .ensures tt) ∙ ap Some (c .if-b-a .taken) in
     let end = c .prefix-end-end .ensures in
     record {
-      laid = c .pre .laid;
-      room = c .pre .room;
-      short = c .pre .short;
+      ready = c .pre .ready;
       inside = c .pre .inside;
       far = omega (arith, end .far);
-      below = c .pre .below;
       firsts = firsts-of G (c .args .layout .now .bound) (c .args .cells .now) w (c .prefix-end-end .result) (c .args .m) (end .before) (leaders-of (f .limits) (c .args .a) (c .args .m) (c .args .s) (c .pre .corners) left);
       last = λ p e. let i : c .prefix-end-end .result ≡ p = omega arith in subst (λ (x : ℕ). Needs-no-rest G w x) i (end .last);
     }

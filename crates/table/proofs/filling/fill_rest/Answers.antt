@@ -10,10 +10,10 @@ pub prefix-end-end-requires : need.prefix-end-end-requires
 prefix-end-end-requires g c κs =
     let f = g .G·Grammar·met .implements (c .args .g .now) in
     record {
-      room = c .pre .room;
+      ready = c .pre .ready .table;
       inside = c .pre .inside;
       some = omega arith;
-      leaders = leaders-zero (f .limits) (c .pre .below) (c .args .s) (done-leaders (f .limits) (c .pre .prefixes) (c .args .s));
+      leaders = leaders-zero (f .limits) (c .pre .ready .below) (c .args .s) (done-leaders (f .limits) (c .pre .prefixes) (c .args .s));
     }
 
 pub fill-suffixes-requires : need.fill-suffixes-requires
@@ -22,12 +22,9 @@ fill-suffixes-requires g c κs =
     let f = g .G·Grammar·met .implements (c .args .g .now) in
     let w = right-of (G .slot (c .args .s)) in
     record {
-      laid = c .pre .laid;
-      room = c .pre .room;
-      short = c .pre .short;
+      ready = c .pre .ready;
       inside = c .pre .inside;
       far = omega (arith, c .length-n .ensures);
-      below = c .pre .below;
       firsts = done-firsts (f .limits) (c .pre .prefixes) (c .args .s) (c .length-n .result);
       last = λ p e. let h : length w ≤ p + 1 = omega (arith, c .length-n .ensures) in end-last G w p h;
     }
@@ -38,6 +35,6 @@ returns g c =
     let end = c .prefix-end-end .ensures in
     record {
       keeps = c .fill-suffixes .ensures .keeps;
-      done = rest-done (f .limits) (c .fill-suffixes .result) (c .args .s) (c .prefix-end-end .result) (c .length-n .result) (c .pre .inside) (c .pre .short) (c .pre .prefixes)
+      done = rest-done (f .limits) (c .fill-suffixes .result) (c .args .s) (c .prefix-end-end .result) (c .length-n .result) (c .pre .inside) (c .pre .ready .short) (c .pre .prefixes)
           (c .fill-suffixes .ensures .keeps) (end .far) (end .before) (c .length-n .ensures) (c .fill-suffixes .ensures .done);
     }

@@ -19,10 +19,10 @@ pub is-nullable-requires : need.is-nullable-requires
 is-nullable-requires g c κs =
     let G = g .G·Grammar .meaning (c .args .g .now) in
     let f = g .G·Grammar·met .implements (c .args .g .now) in (
-      c .pre .room .small,
+      c .pre .ready .room .small,
       λ l.
           let i = symbol-at (right-of (G .slot (c .args .s))) (c .loop-p .p) (c .in-Some .symbol) (c .in-Some .ensures tt) in
-          cell-inside (c .pre .room) _ 0 (nonterminal-row G _ (is-nonterminal (f .limits) (c .args .s) (c .loop-p .p) (c .in-Some .symbol) i l .1)) (omega arith),
+          cell-inside (c .pre .ready .room) _ 0 (nonterminal-row G _ (is-nonterminal (f .limits) (c .args .s) (c .loop-p .p) (c .in-Some .symbol) i l .1)) (omega arith),
     )
 
 pub returns-then-not-is-nullable : need.returns-then-not-is-nullable

@@ -12,7 +12,7 @@ suffix-sum-requires g c κs =
     let f = g .G·Grammar·met .implements (c .args .g .now) in
     let h = subst (λ (x : Terms). Terms-row G x (c .args .at)) (c .in-Split .is) (c .pre .row) in
     record {
-      small = (c .pre .room .small, (omega (arith, rows-few (f .limits), h .0), c .pre .short));
-      first = λ l. cell-inside (c .pre .room) _ _ (nonterminal-row G _ (h .1 l)) (le-refl _);
-      second = λ e. cell-inside (c .pre .room) _ _ (h .2 e) (le-refl _);
+      small = (c .pre .ready .room .small, (omega (arith, rows-few (f .limits), h .0), c .pre .short));
+      first = λ l. cell-inside (c .pre .ready .room) _ _ (nonterminal-row G _ (h .1 l)) (le-refl _);
+      second = λ e. cell-inside (c .pre .ready .room) _ _ (h .2 e) (le-refl _);
     }

@@ -6,14 +6,13 @@ use Prim.Native.Nat.{ℕ, _+_, _*_, _≤_, _<_}
 use native.Mathlib.Omega.{arith}
 use lib.Dec.{ltb, eqb}
 use lib.ListN.{length}
-use Rattle.std.proofs.shelf.Tests.{ltb-true, eqb-true, lt-ltb, le-ltb, ne-eqb}
-use Rattle.std.specs.declared.option.Option.{Option}
+use Rattle.std.proofs.shelf.Tests.{ltb-true, eqb-true, lt-ltb, le-ltb}
 use Rattle.std.specs.declared.option.Option.the-variants.{None, Some}
 use Rattle.theory.specs.Lists.{In, here, there}
-use Rattle.theory.specs.Grammar.{Symbol, terminal, nonterminal, Slot, rule, empty, CFG, Rule-at}
-use Rattle.theory.specs.Sets.{Nullable, none, next, First, itself, inside, behind, Follow, from-first, from-left, Next, token, end, Follow-or-end, Predict, by-first, by-follow, Leads, at-front, past, LeftCorner}
+use Rattle.theory.specs.Grammar.{Symbol, terminal, nonterminal, rule, empty, CFG, Rule-at}
+use Rattle.theory.specs.Sets.{Nullable, none, next, First, itself, inside, behind, Follow, from-first, from-left, Next, token, end, Follow-or-end, Predict, by-first, by-follow, Leads, at-front, past}
 use Rattle.theory.specs.Sound.{Known, Limits}
-use Rattle.theory.specs.Count.{left-of, right-of}
+use Rattle.theory.specs.Count.{left-of}
 use Rattle.grammar.specs.Interface.{Chooses, Implements}
 use Rattle.grammar.proofs.Derived.{implements}
 use Rattle.brackets.specs.Brackets.{bracket-side, bracket-slot, bracket-grammar, bracket-choice}
@@ -125,7 +124,7 @@ module _ (k : ℕ) where
   bracket-chooses = record {
     own = λ A s n e. let z = choice-low A s n e in left-low s (z .1) ∙ ap Some (sym (z .0));
     predicted = chooses;
-    known = no-choice-at;
+    unknown-terminal = no-choice-at;
   }
 
   -- ---- limits and levels

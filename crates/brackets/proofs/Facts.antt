@@ -47,12 +47,12 @@ leads-none e (at-front f) = let z : _≡_ {A = ℕ} 0 1 = cc in omega arith
 leads-none e (past n p) = let z : _≡_ {A = ℕ} 0 1 = cc in omega arith
 
 -- the two forms of a rule
-data Form (k s A : ℕ) (Ys : List Symbol) : Type 0 where
+pub data Form (k s A : ℕ) (Ys : List Symbol) : Type 0 where
   pair : s < k → A ≡ 0 → Ys ≡ bracket-side k s → Form k s A Ys
   nothing : s ≡ k → A ≡ 0 → Ys ≡ [] → Form k s A Ys
 
 -- a rule has one of the two forms
-form : (k s A : ℕ) (Ys : List Symbol) → bracket-slot k s ≡ rule A Ys → Form k s A Ys
+pub form : (k s A : ℕ) (Ys : List Symbol) → bracket-slot k s ≡ rule A Ys → Form k s A Ys
 form k s A Ys = go (ltb s k) refl (eqb s k) refl
   where
     go : (b : Bool) → ltb s k ≡ b → (d : Bool) → eqb s k ≡ d → cond b (rule 0 (bracket-side k s)) (cond d (rule 0 []) empty) ≡ rule A Ys → Form k s A Ys

@@ -6,14 +6,13 @@ use Prim.Native.Nat.{ℕ, _+_, _*_, _≤_, _<_}
 use native.Mathlib.Omega.{arith}
 use lib.Dec.{ltb, eqb}
 use lib.ListN.{length}
-use Rattle.std.proofs.shelf.Tests.{ltb-true, eqb-true, lt-ltb, le-ltb, ne-eqb}
-use Rattle.std.specs.declared.option.Option.{Option}
+use Rattle.std.proofs.shelf.Tests.{ltb-true, eqb-true, lt-ltb, le-ltb}
 use Rattle.std.specs.declared.option.Option.the-variants.{None, Some}
 use Rattle.theory.specs.Lists.{In, here, there}
-use Rattle.theory.specs.Grammar.{Symbol, terminal, nonterminal, Slot, rule, empty, CFG, Rule-at}
-use Rattle.theory.specs.Sets.{Nullable, none, next, First, itself, inside, behind, Follow, from-first, from-left, Next, token, end, Follow-or-end, Predict, by-first, by-follow, Leads, at-front, past, LeftCorner}
+use Rattle.theory.specs.Grammar.{Symbol, terminal, nonterminal, rule, empty, CFG, Rule-at}
+use Rattle.theory.specs.Sets.{Nullable, none, next, First, itself, inside, behind, Follow, from-first, from-left, Next, token, end, Follow-or-end, Predict, by-first, by-follow, Leads, at-front, past}
 use Rattle.theory.specs.Sound.{Known, Limits}
-use Rattle.theory.specs.Count.{left-of, right-of}
+use Rattle.theory.specs.Count.{left-of}
 use Rattle.grammar.specs.Interface.{Chooses, Implements}
 use Rattle.grammar.proofs.Derived.{implements}
 use Rattle.brackets.specs.Brackets.{bracket-side, bracket-slot, bracket-grammar, bracket-choice}
@@ -48,12 +47,12 @@ leads-none e (at-front f) = let z : _≡_ {A = ℕ} 0 1 = cc in omega arith
 leads-none e (past n p) = let z : _≡_ {A = ℕ} 0 1 = cc in omega arith
 
 -- the two forms of a rule
-data Form (k s A : ℕ) (Ys : List Symbol) : Type 0 where
+pub data Form (k s A : ℕ) (Ys : List Symbol) : Type 0 where
   pair : s < k → A ≡ 0 → Ys ≡ bracket-side k s → Form k s A Ys
   nothing : s ≡ k → A ≡ 0 → Ys ≡ [] → Form k s A Ys
 
 -- a rule has one of the two forms
-form : (k s A : ℕ) (Ys : List Symbol) → bracket-slot k s ≡ rule A Ys → Form k s A Ys
+pub form : (k s A : ℕ) (Ys : List Symbol) → bracket-slot k s ≡ rule A Ys → Form k s A Ys
 form k s A Ys = go (ltb s k) refl (eqb s k) refl
   where
     go : (b : Bool) → ltb s k ≡ b → (d : Bool) → eqb s k ≡ d → cond b (rule 0 (bracket-side k s)) (cond d (rule 0 []) empty) ≡ rule A Ys → Form k s A Ys
@@ -125,7 +124,7 @@ module _ (k : ℕ) where
   bracket-chooses = record {
     own = λ A s n e. let z = choice-low A s n e in left-low s (z .1) ∙ ap Some (sym (z .0));
     predicted = chooses;
-    known = no-choice-at;
+    unknown-terminal = no-choice-at;
   }
 
   -- ---- limits and levels

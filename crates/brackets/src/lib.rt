@@ -4,6 +4,7 @@ ghost use mathlib.Core.Path.{_≡_};
 ghost use mathlib.Core.Bool.{cond};
 ghost use Prim.Native.Nat.{_≤_};
 ghost use Rattle.brackets.specs.Brackets.{bracket-grammar, bracket-choice, kinds-allowed, kinds-answer};
+ghost use Rattle.brackets.specs.Laws.{Sentences-are-brackets};
 use fault::Fault;
 use grammar::Grammar;
 use grammar::Lookahead;
@@ -110,3 +111,8 @@ pub impl Grammar for Brackets as BracketsGrammar {
         }
     }
 }
+
+/// A sentence of the bracket family is empty, or an opening bracket, a sentence, the closing bracket of that kind and a sentence; and nothing else is one.
+pub fn sentences_are_brackets()
+    ensures { λ _. ⌜ Sentences-are-brackets ⌝ }
+{}

@@ -1,6 +1,6 @@
 -- A fault is known by its number and its place. Assumes nothing.
-use mathlib.Core.Path.{_≡_, refl, sym, ap, _∙_, subst}
-use mathlib.Core.Bool.{Bool, true, cond}
+use mathlib.Core.Path.{_≡_, refl, sym, ap, _∙_}
+use mathlib.Core.Bool.{Bool, cond}
 use Prim.Native.Nat.{ℕ}
 use lib.Dec.{eqb}
 use Rattle.std.proofs.shelf.Tests.{and-parts, and-from, eqb-true, eq-eqb}
@@ -9,8 +9,9 @@ use Rattle.fault.specs.declared.Memory.{Memory}
 use Rattle.fault.specs.declared.Memory.the-variants.{Cells, Stack, Output}
 use Rattle.fault.specs.declared.Fault.{Fault}
 use Rattle.fault.specs.declared.Fault.the-variants.{MissingByte, UnexpectedMark, FieldOutOfLimits, TrailingBytes, LongNullableSide, LeftRecursion, PredictClash, SpellingClash, TooLong, ShortMemory, CountTooLarge, BrokenCell, NumberTooLarge, ParseStopped, NotSpelled, SettingRefused, OtherCampaign}
-use Rattle.fault.specs.Faults.{fault-number, fault-place, same-fault}
+use Rattle.fault.specs.Faults.{fault-number, fault-place, same-fault, Number-and-place-identify}
 
+-- the memory of a place
 abbrev memory-of : ℕ → Memory
 memory-of p = cond (eqb p 1) Cells (cond (eqb p 2) Stack Output)
 
@@ -35,6 +36,7 @@ fault-of n p =
     cond (eqb n 16) (SettingRefused p) (
     OtherCampaign p))))))))))))))))
 
+-- a fault is that of its number and its place
 fault-back : (f : Fault) → fault-of (fault-number f) (fault-place f) ≡ f
 fault-back (MissingByte p) = refl
 fault-back (UnexpectedMark p) = refl
@@ -60,6 +62,11 @@ fault-back (OtherCampaign p) = refl
 pub fault-known : (f g : Fault) → fault-number f ≡ fault-number g → fault-place f ≡ fault-place g → f ≡ g
 fault-known f g e h = sym (fault-back f) ∙ ap (λ n. fault-of n (fault-place f)) e ∙ ap (fault-of (fault-number g)) h ∙ fault-back g
 
+-- and equal faults have one number and one place
+pub number-and-place-identify : Number-and-place-identify
+number-and-place-identify f g = (λ e. (ap fault-number e, ap fault-place e), λ h. fault-known f g (h .0) (h .1))
+
+-- comparing number and place decides equality
 pub same-decides : (f g : Fault) (r : Bool) → r ≡ same-fault f g → Decides r (f ≡ g)
 same-decides f g r q =
     let n : Bool = eqb (fault-number f) (fault-number g) in

@@ -1,4 +1,6 @@
 -- The number, the stage, the place and the text of each fault. Assumes nothing.
+use mathlib.Core.Path.{_≡_}
+use mathlib.Core.Logic.{_↔_}
 use mathlib.Core.Bool.{Bool, _&&_}
 use mathlib.Core.List.{List, _++_}
 use Prim.Native.Nat.{ℕ}
@@ -88,10 +90,14 @@ fault-place (NotSpelled p) = p
 fault-place (SettingRefused p) = p
 fault-place (OtherCampaign p) = p
 
--- two faults are the same where their numbers and their places are
+-- whether the numbers and the places of two faults are equal
 abbrev pub same-fault : Fault → Fault → Bool
 same-fault f g = eqb (fault-number f) (fault-number g) && eqb (fault-place f) (fault-place g)
 
 -- a fault as text: "fault NUMBER stage STAGE place PLACE"
 abbrev pub fault-text : Fault → List ℕ
 fault-text f = codes "fault " ++ (decimal (fault-number f) ++ (codes " stage " ++ (decimal (stage-number (fault-stage f)) ++ (codes " place " ++ decimal (fault-place f)))))
+
+-- two faults are equal exactly where their numbers and their places are
+abbrev pub Number-and-place-identify : Type 0
+Number-and-place-identify = (f g : Fault) → (f ≡ g) ↔ ((fault-number f ≡ fault-number g) × (fault-place f ≡ fault-place g))

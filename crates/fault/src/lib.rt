@@ -3,7 +3,7 @@
 ghost use mathlib.Core.Path.{_≡_};
 ghost use Rattle.std.specs.declared.option.Option.the-variants.{Some};
 ghost use Rattle.std.specs.Orderings.{Decides};
-ghost use Rattle.fault.specs.Faults.{fault-number, fault-stage, stage-number, memory-place, fault-place, same-fault, fault-text};
+ghost use Rattle.fault.specs.Faults.{fault-number, fault-stage, stage-number, memory-place, fault-place, same-fault, fault-text, Number-and-place-identify};
 use std::fmt;
 
 /// Where a fault comes from.
@@ -21,7 +21,8 @@ pub enum Stage {
     Sentence,
     /// The setting of a grammar or of a layer.
     Layer,
-    /// A tour and its slip.
+    /// A tour, which gives out the sentences of one length one by one, and its slip: the token that opening gives with a
+    /// tour and closing takes back. Both come with a later delivery.
     Tour,
 }
 
@@ -71,7 +72,8 @@ pub enum Fault {
     NotSpelled(u64),
     /// A setting is outside its limits; the setting, or its lowest bit that is.
     SettingRefused(u64),
-    /// The slip is of another campaign than the tour; the slip's campaign.
+    /// The slip is of another campaign than the tour; the slip's campaign. A campaign is a run of tours over years,
+    /// numbered 0 to 65535; it comes with a later delivery.
     OtherCampaign(u64),
 }
 
@@ -196,6 +198,11 @@ pub impl PartialEq<Fault> for Fault as FaultPartialEq {
 }
 
 pub impl Eq for Fault as FaultEq {}
+
+/// A fault is known by its number and its place.
+pub fn number_and_place_identify()
+    ensures { λ _. ⌜ Number-and-place-identify ⌝ }
+{}
 
 pub impl fmt::Display for Fault as FaultDisplay {
     ghost shown = { λ f. Some (fault-text f) };

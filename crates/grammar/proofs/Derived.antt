@@ -1,5 +1,5 @@
 -- What follows from what a grammar owes: two of the soundness rules, and the answers to questions out of range. Assumes nothing.
-use mathlib.Core.Path.{_≡_, refl, sym, ap, _∙_}
+use mathlib.Core.Path.{_≡_, refl, ap}
 use mathlib.Core.List.{List, [], _∷_}
 use Prim.Native.Nat.{ℕ, zero, suc, _≤_, _<_}
 use native.Mathlib.Omega.{arith}
@@ -74,6 +74,6 @@ outside-is-none {G} s = record {
   no-symbol-of-slot = λ i j h. ap (λ o. byte-at (right-of o) j) (s .limits .outside i h);
   no-symbol-at = λ i j h. past-end (right-of (G .slot i)) j h;
   no-choice-of = no-choice (s .limits) (s .choice);
-  no-choice-at = s .choice .known;
+  no-choice-at = s .choice .unknown-terminal;
   no-level = s .level-outside;
 }

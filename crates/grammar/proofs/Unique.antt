@@ -2,8 +2,8 @@
 use mathlib.Core.Path.{_≡_, refl, ap}
 use mathlib.Core.HLevel.{Discrete, hedberg, Π-prop}
 use mathlib.Core.Logic.{⊎-elim, ∥∥₁-elim}
-use mathlib.Core.List.{List, List·isSet}
-use Prim.Native.Nat.{ℕ, _<_}
+use mathlib.Core.List.{List·isSet}
+use Prim.Native.Nat.{ℕ}
 use native.Mathlib.Nat.{ℕ-set}
 use native.Mathlib.Omega.{arith}
 use denote.Struct.Props.{props}

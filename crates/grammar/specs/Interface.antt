@@ -1,7 +1,7 @@
 -- What every grammar of the crate's trait answers and owes. Assumes nothing.
 use mathlib.Core.Path.{_≡_}
 use mathlib.Core.List.{List, [], _∷_}
-use Prim.Native.Nat.{ℕ, zero, suc, _+_, _≤_, _<_}
+use Prim.Native.Nat.{ℕ, zero, suc, _+_, _≤_}
 use lib.ListN.{length}
 use Rattle.std.specs.declared.option.Option.{Option}
 use Rattle.std.specs.declared.option.Option.the-variants.{None, Some}
@@ -33,7 +33,7 @@ next-of-lookahead End = end
 pub record Chooses (G : CFG) (chosen : ℕ → Next → Option ℕ) : Type 0 where
   pub own : (A s : ℕ) (n : Next) → chosen A n ≡ Some s → left-of (G .slot s) ≡ Some A
   pub predicted : (A s : ℕ) (Ys : List Symbol) (n : Next) → Rule-at G s A Ys → Predict G s n → chosen A n ≡ Some s
-  pub known : (A t : ℕ) → G .terminals ≤ t → chosen A (token t) ≡ None
+  pub unknown-terminal : (A t : ℕ) → G .terminals ≤ t → chosen A (token t) ≡ None
   deriving IsProp as chooses-prop
 
 -- what a grammar with its choice and its levels owes: it keeps the limits, it is sound, and choice and levels are as they should be

@@ -6,7 +6,7 @@ ghost use lib.ListN.{length};
 ghost use Rattle.std.specs.declared.option.Option.{Option};
 ghost use Rattle.theory.specs.Grammar.{CFG};
 ghost use Rattle.theory.specs.Sets.{Next};
-ghost use Rattle.theory.specs.Sound.{Limits, Sound};
+ghost use Rattle.theory.specs.Sound.{Limits, Sound, LL1};
 ghost use Rattle.theory.specs.Count.{left-of, right-of};
 ghost use Rattle.grammar.specs.Interface.{byte-at, next-of-lookahead, Implements, Outside-is-none};
 
@@ -71,10 +71,11 @@ pub trait Grammar {
         ensures { λ r. ⌜ r ≡ chosen (now (self .entry)) a (next-of-lookahead next) ⌝ };
 }
 
-/// Every grammar keeps the limits and is sound.
+/// Every grammar keeps the limits and is sound, and its levels are levels: the laws of the theory apply to it.
 pub fn sound<G: Grammar>(g: &G)
     ensures limits { λ _. ⌜ Limits (meaning (now (g .entry))) ⌝ }
     ensures sound { λ _. ⌜ Sound (meaning (now (g .entry))) ⌝ }
+    ensures ll1 { λ _. ⌜ LL1 (meaning (now (g .entry))) (levels (now (g .entry))) ⌝ }
 {}
 
 /// Every grammar answers none, or 0 for a length or a level, where a question is out of range.

@@ -12,7 +12,7 @@ use denote.Ref.{RefT}
 use Rattle.std.proofs.shelf.Lists.{take-append-drop, drop-more, append-nil, take-all}
 use Rattle.std.specs.declared.option.Option.{Option}
 use Rattle.std.specs.declared.option.Option.the-variants.{Some, None}
-use Rattle.script.specs.Cut.{onto, cut, left-of}
+use Rattle.script.specs.Cut.{onto, cut, unread-of}
 
 -- there is a word
 abbrev pub Some-word : List (List ℕ) → Type 0
@@ -100,14 +100,14 @@ cut-at t i l e h = ap cut (split-at t i l e) ∙ cut-front (take i t) (32 ∷ dr
 pub cut-all : (t : List ℕ) (i : ℕ) → length t ≤ i → None-before t i → cut t ≡ take i t ∷ []
 cut-all t i l h = ap cut (sym (append-nil t) ∙ ap (λ (x : List ℕ). x ++ []) (sym (take-all i t l))) ∙ cut-front (take i t) [] [] (plain-take t i h) refl
 
--- some words are left of a text
-pub left-some : (o : Option (RefT (List ℕ))) (t : RefT (List ℕ)) → o ≡ Some t → left-of o ≡ [] → ⊥
-left-some o t p e = let s : Some-word (left-of o) = subst (λ (x : Option (RefT (List ℕ))). Some-word (left-of x)) (sym p) (cut-some (t .now)) in subst Some-word e s
+-- some words of a text are unread
+pub unread-some : (o : Option (RefT (List ℕ))) (t : RefT (List ℕ)) → o ≡ Some t → unread-of o ≡ [] → ⊥
+unread-some o t p e = let s : Some-word (unread-of o) = subst (λ (x : Option (RefT (List ℕ))). Some-word (unread-of x)) (sym p) (cut-some (t .now)) in subst Some-word e s
 
 -- the next word of a text with a space
-pub next-word : (o q : Option (RefT (List ℕ))) (t u : RefT (List ℕ)) (i : ℕ) → o ≡ Some t → q ≡ Some u → u .now ≡ drop (i + 1) (t .now) → i < length (t .now) → getD (t .now) i 0 ≡ 32 → None-before (t .now) i → left-of o ≡ take i (t .now) ∷ left-of q
-next-word o q t u i p r d l e h = ap left-of p ∙ cut-at (t .now) i l e h ∙ ap (λ (x : List (List ℕ)). take i (t .now) ∷ x) (sym (ap left-of r ∙ ap cut d))
+pub next-word : (o q : Option (RefT (List ℕ))) (t u : RefT (List ℕ)) (i : ℕ) → o ≡ Some t → q ≡ Some u → u .now ≡ drop (i + 1) (t .now) → i < length (t .now) → getD (t .now) i 0 ≡ 32 → None-before (t .now) i → unread-of o ≡ take i (t .now) ∷ unread-of q
+next-word o q t u i p r d l e h = ap unread-of p ∙ cut-at (t .now) i l e h ∙ ap (λ (x : List (List ℕ)). take i (t .now) ∷ x) (sym (ap unread-of r ∙ ap cut d))
 
 -- the last word of a text
-pub last-word : (o q : Option (RefT (List ℕ))) (t : RefT (List ℕ)) (i : ℕ) → o ≡ Some t → q ≡ None → length (t .now) ≤ i → None-before (t .now) i → left-of o ≡ take i (t .now) ∷ left-of q
-last-word o q t i p r l h = ap left-of p ∙ cut-all (t .now) i l h ∙ ap (λ (x : List (List ℕ)). take i (t .now) ∷ x) (sym (ap left-of r))
+pub last-word : (o q : Option (RefT (List ℕ))) (t : RefT (List ℕ)) (i : ℕ) → o ≡ Some t → q ≡ None → length (t .now) ≤ i → None-before (t .now) i → unread-of o ≡ take i (t .now) ∷ unread-of q
+last-word o q t i p r l h = ap unread-of p ∙ cut-all (t .now) i l h ∙ ap (λ (x : List (List ℕ)). take i (t .now) ∷ x) (sym (ap unread-of r))

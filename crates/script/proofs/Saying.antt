@@ -12,7 +12,7 @@ use Rattle.std.specs.declared.option.Option.{Option}
 use Rattle.std.specs.declared.option.Option.the-variants.{Some, None}
 use Rattle.script.specs.Text.{Numeral, spaced}
 use Rattle.script.specs.Cut.{cut}
-use Rattle.script.specs.Says.{Argument, number, end, text, keyword-of, arguments, Writes, Write-all, Says, Reads}
+use Rattle.script.specs.Says.{Argument, number, end, text, keyword-of, arguments, Writes, Write-all, Says}
 use Rattle.script.specs.Shapes.{Refused, shape}
 use Rattle.script.specs.Laws.{One-command, One-reading}
 use Rattle.script.specs.declared.keyword.Keyword.{Keyword}

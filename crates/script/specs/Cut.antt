@@ -18,10 +18,11 @@ abbrev pub cut : List ℕ → List (List ℕ)
 cut [] = [] ∷ []
 cut (b ∷ bs) = cond (eqb b 32) ([] ∷ cut bs) (onto b (cut bs))
 
--- the words that are not read yet
-abbrev pub left-of : Option (RefT (List ℕ)) → List (List ℕ)
-left-of None = []
-left-of (Some t) = cut (t .now)
+-- the words of what is not read yet, none once all is read
+abbrev pub unread-of : Option (RefT (List ℕ)) → List (List ℕ)
+unread-of None = []
+unread-of (Some t) = cut (t .now)
 
-abbrev pub left : Words → List (List ℕ)
-left words = left-of (words .rest)
+-- the words of a text that are not read yet
+abbrev pub unread : Words → List (List ℕ)
+unread words = unread-of (words .rest)

@@ -3,4 +3,5 @@ pub mod Text
 pub mod Says
 pub mod Cut
 pub mod Shapes
+pub mod LineEnd
 pub mod Laws

@@ -58,8 +58,8 @@ abbrev pub max-byte : ℕ
 max-byte = 255
 
 -- the largest number of 64 bits
-abbrev pub max-word : ℕ
-max-word = 18446744073709551615
+abbrev pub max-u64 : ℕ
+max-u64 = 18446744073709551615
 
 -- the most cells, places of a stack or bytes of output that a script asks for
 abbrev pub max-size : ℕ
@@ -71,7 +71,7 @@ byte v = number max-byte v
 
 -- a number of 64 bits
 abbrev pub any : ℕ → Argument
-any v = number max-word v
+any v = number max-u64 v
 
 -- a number of cells, of places of a stack or of bytes of output
 abbrev pub size : ℕ → Argument

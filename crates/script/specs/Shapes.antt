@@ -2,7 +2,7 @@
 use mathlib.Core.Path.{_≡_}
 use mathlib.Core.List.{List, [], _∷_}
 use Prim.Native.Nat.{ℕ}
-use Rattle.script.specs.Says.{number, byte, max-byte, max-word, max-size, next-argument, Writes, Write-all}
+use Rattle.script.specs.Says.{number, byte, max-byte, max-u64, max-size, next-argument, Writes, Write-all}
 use Rattle.script.specs.declared.keyword.Keyword.{Keyword}
 use Rattle.script.specs.declared.keyword.Keyword.the-variants as key
 use Rattle.script.specs.declared.NextWord.{NextWord}
@@ -20,20 +20,20 @@ pub data Shape : Type 0 where
 abbrev pub shape : Keyword → Shape
 shape key.Brackets = one max-byte
 shape key.Neutral = none
-shape key.Restrict = one max-word
+shape key.Restrict = one max-u64
 shape key.Start = one max-byte
 shape key.Choice = choice
 shape key.Level = one max-byte
 shape key.Memory = three max-size
-shape key.Bound = one max-word
+shape key.Bound = one max-u64
 shape key.Count = none
 shape key.Check = none
 shape key.Table = none
-shape key.Cell = one max-word
-shape key.Flip = two max-word
-shape key.Poke = two max-word
+shape key.Cell = one max-u64
+shape key.Flip = two max-u64
+shape key.Poke = two max-u64
 
--- the first of the words writes the number v up to a limit, and the others are left
+-- the first of the words writes the number v up to a limit, and the others are still unread
 abbrev pub First-number : ℕ → ℕ → List (List ℕ) → List (List ℕ) → Type 0
 First-number limit v ws rest = (w : List ℕ) × (ws ≡ w ∷ rest) × Writes (number limit v) w
 

@@ -25,9 +25,12 @@
 //! A line that is not blank and says no command, or has more than 1,000,000 bytes, is unreadable.
 
 ghost use Rattle.script.specs.Laws.{Every-command, One-command, One-reading};
+ghost use Rattle.script.specs.LineEnd.{Ends-in, Line-end-off};
 ghost use Rattle.script.specs.Says.{Is-blank, Reads, Says};
 ghost use Rattle.std.specs.Options.{Cases as BySome};
 ghost use Rattle.std.specs.Orderings.{Decides};
+ghost use mathlib.Core.List.{[], _++_, _∷_};
+ghost use mathlib.Core.Path.{_≡_};
 
 mod arguments;
 mod keyword;
@@ -37,51 +40,67 @@ mod words;
 use keyword::find_keyword;
 use words::Words;
 
-/// What stands after a nonterminal in a question for its choice: a terminal, or the end of the input.
+/// What stands after a nonterminal in a question for its choice.
 #[derive(Clone, Copy, PartialEq, Eq, Drop)]
 pub enum NextWord {
+    /// A terminal.
     Terminal(u8),
+    /// The end of the input.
     End,
 }
 
 /// A command of a console script.
 #[derive(Clone, Copy, PartialEq, Eq, Drop)]
 pub enum Command {
+    /// Set the number of kinds of brackets.
     Brackets {
         kinds: u8,
     },
+    /// Reset both layers.
     Neutral,
+    /// Set the mask of the restriction.
     Restrict {
         mask: u64,
     },
+    /// Set the start of the start change.
     Start {
         start: u8,
     },
+    /// Ask for the slot chosen for a nonterminal and what comes next.
     Choice {
         nonterminal: u8,
         next: NextWord,
     },
+    /// Ask for the level of a nonterminal.
     Level {
         nonterminal: u8,
     },
+    /// Set the sizes of the lent memories.
     Memory {
         cells: usize,
         stack: usize,
         output: usize,
     },
+    /// Set the bound of the table.
     Bound {
         bound: usize,
     },
+    /// Count the table.
     Count,
+    /// Check the table.
     Check,
+    /// Ask for the needed cells.
     Table,
+    /// Ask for what a cell holds.
     Cell {
         cell: u64,
     },
+    /// Change one bit of a cell.
     Flip {
         cell: u64,
         bit: u64,
     },
+    /// Write a value to a cell.
     Poke {
         cell: u64,
         value: u64,
@@ -91,8 +110,11 @@ pub enum Command {
 /// What a line of a script is.
 #[derive(Clone, Copy, PartialEq, Eq, Drop)]
 pub enum Line {
+    /// It is empty or a comment.
     Blank,
+    /// It says this command.
     Command(Command),
+    /// It is not blank and says no command, or is too long.
     Unreadable,
 }
 
@@ -119,7 +141,7 @@ fn read_command(text: &[u8]) -> Option<Command>
     arguments::read(keyword, words)
 }
 
-/// Reads a line, given without its line feed.
+/// Reads a line, given without its line end, LF or CR LF.
 pub fn read_line(line: &[u8]) -> Line
     ensures { λ r. ⌜ Reads (now (line .entry)) r ⌝ }
 {
@@ -132,6 +154,27 @@ pub fn read_line(line: &[u8]) -> Line
     match read_command(line) {
         Some(command) => Line::Command(command),
         None => Line::Unreadable,
+    }
+}
+
+/// The text before a byte at the end of it; none if it does not end in that byte.
+fn before_last(text: &[u8], byte: u8) -> Option<&[u8]>
+    ensures { λ r. ⌜ BySome r (Ends-in byte (now (text .entry)) → ⊥) (λ front. now (text .entry) ≡ now front ++ (byte ∷ [])) ⌝ }
+{
+    let (last, front) = text.split_last()?;
+    if *last == byte { Some(front) } else { None }
+}
+
+/// A line without its line end: one LF, or one CR LF, is taken off at the end. Any other CR stays.
+pub fn without_line_end(line: &[u8]) -> &[u8]
+    ensures { λ r. ⌜ Line-end-off (now (line .entry)) (now r) ⌝ }
+{
+    match before_last(line, b'\n') {
+        None => line,
+        Some(text) => match before_last(text, b'\r') {
+            Some(front) => front,
+            None => text,
+        },
     }
 }
 
@@ -159,6 +202,17 @@ mod tests {
     // Checks which command a line says.
     fn says(line: &[u8], wanted: Command) -> Result<(), Fail> {
         line_is(line, Line::Command(wanted))
+    }
+
+    #[test]
+    fn line_ends() -> Result<(), Fail> {
+        check(without_line_end(b"count\n") == b"count")?;
+        check(without_line_end(b"count\r\n") == b"count")?;
+        check(without_line_end(b"count") == b"count")?;
+        check(without_line_end(b"count\r") == b"count\r")?;
+        check(without_line_end(b"\r\r\n\n") == b"\r\r\n")?;
+        check(without_line_end(b"\n") == b"")?;
+        check(without_line_end(b"") == b"")
     }
 
     #[test]

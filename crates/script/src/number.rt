@@ -1,14 +1,14 @@
 //! Decimal numbers.
 
 ghost use Prim.Native.Nat.{ℕ, _*_, _+_, _-_, _≤_};
-ghost use Rattle.script.specs.Says.{max-word};
+ghost use Rattle.script.specs.Says.{max-u64};
 ghost use Rattle.script.specs.Text.{Digit, Numeral};
 ghost use Rattle.std.specs.Options.{Cases as BySome};
 ghost use mathlib.Core.Path.{_≡_};
 
 /// The value of the digits so far with one more digit, below 2 to the 64.
 fn push_digit(value: u64, byte: u8) -> Option<u64>
-    ensures { λ r. ⌜ BySome r (Digit byte → value * 10 + (byte - 48) ≤ max-word → ⊥) (λ v. Digit byte × (v ≡ value * 10 + (byte - 48))) ⌝ }
+    ensures { λ r. ⌜ BySome r (Digit byte → value * 10 + (byte - 48) ≤ max-u64 → ⊥) (λ v. Digit byte × (v ≡ value * 10 + (byte - 48))) ⌝ }
 {
     match byte {
         b'0'..=b'9' => value.checked_mul(10)?.checked_add((byte - b'0') as u64),
@@ -18,7 +18,7 @@ fn push_digit(value: u64, byte: u8) -> Option<u64>
 
 /// The value of a word of decimal digits, below 2 to the 64.
 fn number(word: &[u8]) -> Option<u64>
-    ensures { λ r. ⌜ BySome r ((v : ℕ) → Numeral (now (word .entry)) v → v ≤ max-word → ⊥) (λ v. Numeral (now (word .entry)) v) ⌝ }
+    ensures { λ r. ⌜ BySome r ((v : ℕ) → Numeral (now (word .entry)) v → v ≤ max-u64 → ⊥) (λ v. Numeral (now (word .entry)) v) ⌝ }
 {
     if word.is_empty() {
         return None;

@@ -1,7 +1,7 @@
 //! The words of a text, which stand between single spaces.
 
 ghost use Prim.Native.Nat.{ℕ, _<_, _≤_};
-ghost use Rattle.script.specs.Cut.{cut, left};
+ghost use Rattle.script.specs.Cut.{cut, unread};
 ghost use Rattle.std.specs.Options.{Cases as BySome};
 ghost use lib.ListN.{getD, length};
 ghost use mathlib.Core.List.{[], _∷_};
@@ -31,14 +31,14 @@ fn first_space(text: &[u8]) -> usize
 impl<'a> Words<'a> {
     /// All words of a text.
     pub fn of(text: &'a [u8]) -> Words<'a>
-        ensures { λ r. ⌜ left r ≡ cut (now (text .entry)) ⌝ }
+        ensures { λ r. ⌜ unread r ≡ cut (now (text .entry)) ⌝ }
     {
         Words { rest: Some(text) }
     }
 
     /// The next word.
     pub fn next(&mut self) -> Option<&'a [u8]>
-        ensures { λ r. ⌜ BySome r (left (now (self .entry)) ≡ []) (λ word. left (now (self .entry)) ≡ (now word ∷ left (now (self .exit)))) ⌝ }
+        ensures { λ r. ⌜ BySome r (unread (now (self .entry)) ≡ []) (λ word. unread (now (self .entry)) ≡ (now word ∷ unread (now (self .exit)))) ⌝ }
     {
         let text = self.rest?;
         let end = first_space(text);
@@ -52,7 +52,7 @@ impl<'a> Words<'a> {
 
     /// Whether all words are read.
     pub fn ended(&self) -> bool
-        ensures { λ r. ⌜ Decides r (left (now (self .entry)) ≡ []) ⌝ }
+        ensures { λ r. ⌜ Decides r (unread (now (self .entry)) ≡ []) ⌝ }
     {
         match self.rest {
             Some(_) => false,

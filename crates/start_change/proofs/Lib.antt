@@ -1,0 +1,2 @@
+pub mod Implemented
+pub mod Laws

@@ -33,19 +33,19 @@ slot-answer None = NoSlot
 slot-answer (Some s) = Slot s
 
 -- how counting is answered, and what it leaves in the cells
-pub data Count-answer (G : CFG) (L : ℕ) (before after : List ℕ) : Answer → Type 0 where
-  counted : calls.Counted G L before after → Count-answer G L before after Counted
-  refused : (f : Fault) → calls.Count-refused G L before after f → Count-answer G L before after (Refused f)
+pub data Count-reply (G : CFG) (L : ℕ) (before after : List ℕ) : Answer → Type 0 where
+  counted : calls.Counted G L before after → Count-reply G L before after Counted
+  refused : (f : Fault) → calls.Count-refused G L before after f → Count-reply G L before after (Refused f)
 
 -- how a check is answered
-pub data Check-answer (G : CFG) (L : ℕ) (cells : List ℕ) : Answer → Type 0 where
-  sound : Room G L cells → Sound-table G L cells → Check-answer G L cells Sound
-  refused : (f : Fault) → calls.Check-refused G L cells f → Check-answer G L cells (Refused f)
+pub data Check-reply (G : CFG) (L : ℕ) (cells : List ℕ) : Answer → Type 0 where
+  sound : Room G L cells → Sound-table G L cells → Check-reply G L cells Sound
+  refused : (f : Fault) → calls.Check-refused G L cells f → Check-reply G L cells (Refused f)
 
 -- how the console shows a table: its needed cells, or why there is no room for it
-pub data Table-answer (G : CFG) (L : ℕ) (cells : List ℕ) : Answer → Type 0 where
-  shown : (v : Vec ℕ Global) → Room G L cells → vec-items v ≡ take (needed G L) cells → Table-answer G L cells (Table v)
-  refused : (f : Fault) → calls.No-room G L (length cells) f → Table-answer G L cells (Refused f)
+pub data Table-reply (G : CFG) (L : ℕ) (cells : List ℕ) : Answer → Type 0 where
+  shown : (v : Vec ℕ Global) → Room G L cells → vec-items v ≡ take (needed G L) cells → Table-reply G L cells (Table v)
+  refused : (f : Fault) → calls.No-room G L (length cells) f → Table-reply G L cells (Refused f)
 
 -- what a cell holds, if there is one of that number
 abbrev pub cell-answer : List ℕ → ℕ → Answer

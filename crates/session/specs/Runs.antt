@@ -15,11 +15,12 @@ use Rattle.theory.specs.Grammar.{CFG}
 use Rattle.theory.specs.Sets.{Next}
 use Rattle.brackets.specs.Brackets.{bracket-grammar, bracket-choice, kinds-allowed, kinds-answer}
 use Rattle.brackets.specs.declared.Brackets.{Brackets}
-use Rattle.layers.specs.Masks.{all-bits}
-use Rattle.layers.specs.Layered.{kept-slots, kept-choice, with-start, Mask-set, start-answer}
+use Rattle.restriction.specs.Masks.{all-bits}
+use Rattle.restriction.specs.Restricted.{kept-slots, kept-choice, Mask-set}
+use Rattle.start_change.specs.Started.{with-start, start-answer}
 use Rattle.script.specs.declared.Command.{Command}
 use Rattle.script.specs.declared.Command.the-variants as command
-use Rattle.session.specs.Asked.{word-next, slot-answer, Count-answer, Check-answer, Table-answer, cell-answer, written-answer, written, flipped-answer, flipped}
+use Rattle.session.specs.Asked.{word-next, slot-answer, Count-reply, Check-reply, Table-reply, cell-answer, written-answer, written, flipped-answer, flipped}
 use Rattle.session.specs.declared.answer.Answer.{Answer}
 use Rattle.session.specs.declared.answer.Answer.the-variants.{Done, Level, Refused}
 use Rattle.session.specs.declared.state.Session.{Session}
@@ -33,9 +34,9 @@ setting-answer (Err f) = Refused f
 pub data Asks (G : CFG) (chosen : ℕ → Next → Option ℕ) (level : ℕ → ℕ) (L : ℕ) (before after : List ℕ) : Command → Answer → Type 0 where
   choice : (A : ℕ) (w : _) → after ≡ before → Asks G chosen level L before after (command.Choice A w) (slot-answer (chosen A (word-next w)))
   level-of : (A : ℕ) → after ≡ before → Asks G chosen level L before after (command.Level A) (Level (level A))
-  count : (a : Answer) → Count-answer G L before after a → Asks G chosen level L before after command.Count a
-  check : (a : Answer) → Check-answer G L before a → after ≡ before → Asks G chosen level L before after command.Check a
-  table : (a : Answer) → Table-answer G L before a → after ≡ before → Asks G chosen level L before after command.Table a
+  count : (a : Answer) → Count-reply G L before after a → Asks G chosen level L before after command.Count a
+  check : (a : Answer) → Check-reply G L before a → after ≡ before → Asks G chosen level L before after command.Check a
+  table : (a : Answer) → Table-reply G L before a → after ≡ before → Asks G chosen level L before after command.Table a
   cell : (i : ℕ) → after ≡ before → Asks G chosen level L before after (command.Cell i) (cell-answer before i)
   flip : (i b : ℕ) → after ≡ flipped before i b → Asks G chosen level L before after (command.Flip i b) (flipped-answer before i b)
   poke : (i v : ℕ) → after ≡ written before i v → Asks G chosen level L before after (command.Poke i v) (written-answer before i)

@@ -5,14 +5,15 @@ ghost use mathlib.Core.Bool.{cond};
 ghost use lib.Dec.{ltb};
 ghost use Rattle.std.specs.declared.option.Option.the-variants.{None, Some};
 ghost use Rattle.brackets.specs.Brackets.{kinds-allowed, kinds-answer};
-ghost use Rattle.layers.specs.Masks.{all-bits};
-ghost use Rattle.layers.specs.Layered.{Mask-set, start-answer};
+ghost use Rattle.restriction.specs.Masks.{all-bits};
+ghost use Rattle.restriction.specs.Restricted.{Mask-set};
+ghost use Rattle.start_change.specs.Started.{start-answer};
 use brackets::Brackets;
 use fault::Fault;
 use grammar::Grammar;
-use layers::restriction::Restriction;
-use layers::restriction::RestrictionGrammar;
-use layers::start_change::StartChange;
+use restriction::Restriction;
+use restriction::RestrictionGrammar;
+use start_change::StartChange;
 
 /// A start change over a restriction over a base.
 pub type Pile<B> = StartChange<Restriction<B>>;

@@ -7,7 +7,7 @@ ghost use Rattle.std.specs.Results.{Cases};
 ghost use Rattle.std.specs.Vec.{made};
 ghost use Rattle.table.specs.Rows.{needed, Room};
 ghost use Rattle.table.specs.Calls.{No-room};
-ghost use Rattle.session.specs.Asked.{slot-answer, word-next, Count-answer, Check-answer, Table-answer};
+ghost use Rattle.session.specs.Asked.{slot-answer, word-next, Count-reply, Check-reply, Table-reply};
 use crate::answer::Answer;
 use fault::Fault;
 use grammar::Grammar;
@@ -41,7 +41,7 @@ pub fn level<P: Grammar>(pile: &P, nonterminal: u8) -> Answer
 
 /// Counts the pile's table for a bound in these cells.
 pub fn count<P: Grammar>(pile: &P, bound: usize, cells: &mut [u64]) -> Answer
-    ensures { λ r. ⌜ Count-answer (meaning (now (pile .entry))) bound (now (cells .entry)) (now (cells .exit)) r ⌝ }
+    ensures { λ r. ⌜ Count-reply (meaning (now (pile .entry))) bound (now (cells .entry)) (now (cells .exit)) r ⌝ }
 {
     match table::count(pile, Table { cells, bound }) {
         Ok(()) => Answer::Counted,
@@ -51,7 +51,7 @@ pub fn count<P: Grammar>(pile: &P, bound: usize, cells: &mut [u64]) -> Answer
 
 /// Checks the pile's table for a bound in these cells.
 pub fn check<P: Grammar>(pile: &P, bound: usize, cells: &mut [u64]) -> Answer
-    ensures answer { λ r. ⌜ Check-answer (meaning (now (pile .entry))) bound (now (cells .entry)) r ⌝ }
+    ensures answer { λ r. ⌜ Check-reply (meaning (now (pile .entry))) bound (now (cells .entry)) r ⌝ }
     ensures cells { λ _. ⌜ now (cells .exit) ≡ now (cells .entry) ⌝ }
 {
     let table = Table { cells, bound };
@@ -71,7 +71,7 @@ fn needed_for<P: Grammar>(pile: &P, bound: usize, cells: &mut [u64]) -> Result<u
 
 /// The needed cells of the pile's table for a bound.
 pub fn show_table<P: Grammar>(heap: Global, pile: &P, bound: usize, cells: &mut [u64]) -> Result<Answer, AllocError>
-    ensures answer { λ r. ⌜ made r (Table-answer (meaning (now (pile .entry))) bound (now (cells .entry))) ⌝ }
+    ensures answer { λ r. ⌜ made r (Table-reply (meaning (now (pile .entry))) bound (now (cells .entry))) ⌝ }
     ensures cells { λ _. ⌜ now (cells .exit) ≡ now (cells .entry) ⌝ }
 {
     match needed_for(pile, bound, cells) {

@@ -5,5 +5,6 @@ pub mod ask;
 pub mod cells;
 pub mod settings;
 pub mod state;
+pub mod line;
 pub mod run;
 pub mod work;

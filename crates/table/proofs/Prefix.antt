@@ -140,19 +140,19 @@ module _ {G : CFG} (L : ℕ) (t : List ℕ) (z : Limits G) (s p b : ℕ) (before
           go (Z ∷ Zs) (suc k) h = ap {B = List Symbol} (λ (u : List Symbol). Z ∷ u) (go Zs k h)
 
   -- what counts nothing at length 0 ends the prefix
-  pub prefix-ends : ltb 0 (byte-count L t b 0) ≡ false → Needs-no-rest G (right-of (G .slot s)) p
+  pub prefix-ends : false ≡ ltb 0 (byte-count L t b 0) → Needs-no-rest G (right-of (G .slot s)) p
   prefix-ends e =
       ⊎-elim
       terminal-ends
-      (λ l. nonterminal-ends l (let f : byte-count L t b 0 ≡ cell-at L t (b - 128) 0 = rw (le-ltb b 128 l) in omega (arith, f, ltb-false 0 (byte-count L t b 0) e)))
+      (λ l. nonterminal-ends l (let f : byte-count L t b 0 ≡ cell-at L t (b - 128) 0 = rw (le-ltb b 128 l) in omega (arith, f, ltb-false 0 (byte-count L t b 0) (sym e))))
       (cases-lt b 128)
 
   -- and what counts something goes on
-  pub prefix-more : ltb 0 (byte-count L t b 0) ≡ true → Nullable G (take (p + 1) (right-of (G .slot s)))
+  pub prefix-more : true ≡ ltb 0 (byte-count L t b 0) → Nullable G (take (p + 1) (right-of (G .slot s)))
   prefix-more e =
       ⊎-elim
-      (λ l. let f : byte-count L t b 0 ≡ 0 = rw (lt-ltb b 128 l) in absurd (omega (arith, f, ltb-true 0 (byte-count L t b 0) e)))
-      (λ l. nonterminal-more l (let f : byte-count L t b 0 ≡ cell-at L t (b - 128) 0 = rw (le-ltb b 128 l) in omega (arith, f, ltb-true 0 (byte-count L t b 0) e)))
+      (λ l. let f : byte-count L t b 0 ≡ 0 = rw (lt-ltb b 128 l) in absurd (omega (arith, f, ltb-true 0 (byte-count L t b 0) (sym e))))
+      (λ l. nonterminal-more l (let f : byte-count L t b 0 ≡ cell-at L t (b - 128) 0 = rw (le-ltb b 128 l) in omega (arith, f, ltb-true 0 (byte-count L t b 0) (sym e))))
       (cases-lt b 128)
 
 -- once every nonterminal is done, the nonterminals of a right-hand side and its prefix are right

@@ -10,6 +10,7 @@ use lib.Seq.{getD-set-same, getD-set-other}
 use Rattle.std.proofs.shelf.Tests.{cases-eq}
 use Rattle.theory.specs.Grammar.{CFG}
 use Rattle.table.specs.Rows.{Row-of, row-number, place, Room}
+use Rattle.table.specs.Equations.{equation}
 use Rattle.table.specs.Counts.{count-of}
 use Rattle.table.specs.Layouts.{Ready, At-row}
 use Rattle.table.specs.Filling.{Correct, Correct-below, Ready-at, Keeps, Unless-over, Prefix-correct-of, Done, All-done}
@@ -42,12 +43,12 @@ pub keeps-ready : {G : CFG} {layout : Layout} {t u : List ℕ} {m : ℕ} → Kee
 keeps-ready k r = record { table = keeps-table k (r .table); short = r .short; below = keeps-below k (omega (arith, r .short)) (r .below) }
 
 module _ {G : CFG} {L : ℕ} {t : List ℕ} {ρ : Row} {r : ℕ} (f : Room G L t) (a : At-row G ρ r) (m v : ℕ) (l : m ≤ L) (e : v ≡ count-of G ρ m) (low : count-of G ρ m < 2 ^ 63) where
-  pub put-right : Correct G L (set t (place L r m) v) ρ m
+  put-right : Correct G L (set t (place L r m) v) ρ m
   put-right =
       let i = row-cell f a m l in
       record { is = subst (λ (x : ℕ). getD (set t (place L r m) v) (place L x m) 0 ≡ count-of G ρ m) (a .is) (rw getD-set-same e); low = low }
 
-  pub put-keeps : Keeps G L t (set t (place L r m) v)
+  put-keeps : Keeps G L t (set t (place L r m) v)
   put-keeps = record {
     long = length-set t (place L r m) v;
     still = λ σ n h o s.
@@ -64,6 +65,13 @@ module _ {G : CFG} {L : ℕ} {t : List ℕ} {ρ : Row} {r : ℕ} (f : Room G L t
         rw getD-set-other;
   }
 
+-- the cells after a write of what the equation says, where that is the count
+pub put-done : {G : CFG} {L : ℕ} {t u : List ℕ} {ρ : Row} {r : ℕ} → Room G L t → At-row G ρ r → (m v : ℕ) → m ≤ L → (v ≡ equation G L t ρ m) × (equation G L t ρ m < 2 ^ 63)
+    → equation G L t ρ m ≡ count-of G ρ m → u ≡ set t (place L r m) v → Keeps G L t u × Correct G L u ρ m
+put-done {G} {L} {t} {u} {ρ} {r} f a m v l w d s =
+    let low = subst (λ (x : ℕ). x < 2 ^ 63) d (w .1) in
+    subst (λ (x : List ℕ). Keeps G L t x × Correct G L x ρ m) (sym s) (put-keeps f a m v l (w .0 ∙ d) low, put-right f a m v l (w .0 ∙ d) low)
+
 pub keeps-prefix : {G : CFG} {L : ℕ} {t u : List ℕ} {m A s : ℕ} → Keeps G L t u → m ≤ L → s < G .slots → Prefix-correct-of G L t A m s → Prefix-correct-of G L u A m s
 keeps-prefix k l i h = λ e p o n. k .still (Suffix _ p) _ (i, o) l (h e p o n)
 
@@ -72,6 +80,27 @@ keeps-done k l i d = record {
   count = k .still (Nonterminal _) _ i l (d .count);
   prefixes = λ s o. keeps-prefix k l o (d .prefixes s o);
 }
+
+-- the nonterminals of the levels below k, and those of level k up to a, once a is done too
+pub level-more : {G : CFG} {L : ℕ} {t u : List ℕ} {m : ℕ} (h : ℕ → ℕ) (k a : ℕ) → a < G .nonterminals → m ≤ L → Keeps G L t u → Done G L u m a
+    → ((B : ℕ) → B < G .nonterminals → h B < k → Done G L t m B) → ((B : ℕ) → B < a → h B ≡ k → Done G L t m B)
+    → ((B : ℕ) → B < G .nonterminals → h B < k → Done G L u m B) × ((B : ℕ) → B < a + 1 → h B ≡ k → Done G L u m B)
+level-more {G} {L} {t} {u} {m} h k a i l keeps d lower same = (
+  λ B o e. keeps-done keeps l o (lower B o e),
+  λ B o e. ⊎-elim
+      (λ q. subst (λ (x : ℕ). Done G L u m x) (sym q) d)
+      (λ ne. keeps-done keeps l (omega arith) (same B (omega arith) e))
+      (cases-eq B a),
+)
+
+-- and those of level k up to a, where a is of another level
+pub level-skip : (D : ℕ → Type 0) (h : ℕ → ℕ) (k a : ℕ) → (h a ≡ k → ⊥) → ((B : ℕ) → B < a → h B ≡ k → D B) → (B : ℕ) → B < a + 1 → h B ≡ k → D B
+level-skip D h k a ne same B o e = ⊎-elim (λ q. absurd (ne (ap h (sym q) ∙ e))) (λ d. same B (omega arith) e) (cases-eq B a)
+
+-- the levels below the next, once those below k and those of level k are done
+pub level-next : {N : ℕ} (D : ℕ → Type 0) (h : ℕ → ℕ) (k : ℕ) → ((B : ℕ) → B < N → h B < k → D B) → ((B : ℕ) → B < N → h B ≡ k → D B)
+    → (B : ℕ) → B < N → h B < k + 1 → D B
+level-next D h k lower same B l o = ⊎-elim (same B l) (λ ne. lower B l (omega arith)) (cases-eq (h B) k)
 
 right-row : (G : CFG) (L : ℕ) (t : List ℕ) (m : ℕ) → All-done G L t m → ((s q : ℕ) → Row-of G (Suffix s q) → Correct G L t (Suffix s q) m)
     → (ρ : Row) → Row-of G ρ → Correct G L t ρ m

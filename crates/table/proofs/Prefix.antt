@@ -24,7 +24,7 @@ use Rattle.table.specs.Rows.{cell-at}
 use Rattle.table.specs.Terms.{byte-count}
 use Rattle.table.specs.Filling.{Correct, Correct-below, Keeps, Unless-over, Firsts-correct, Needs-no-rest, Corners-correct, Leading-correct, Prefix-correct-of, All-done, Done}
 use Rattle.table.specs.declared.Row.the-variants.{Nonterminal, Suffix}
-use Rattle.table.proofs.Sides.{drop-next, nonterminal-known, Symbol-at, symbol-at, is-terminal, is-nonterminal}
+use Rattle.table.proofs.Sides.{drop-next, symbol-there, take-next, nonterminal-known, Symbol-at, symbol-at, is-terminal, is-nonterminal}
 
 nullable-take : {G : CFG} {Xs : List Symbol} → Nullable G Xs → (q : ℕ) → Nullable G (take q Xs)
 nullable-take none zero = none
@@ -65,14 +65,9 @@ pub prefix-within : {G : CFG} {level : ℕ → ℕ} → LL1 G level → (Ys : Li
 prefix-within {G} ll Ys p q lq last lp n =
     ⊎-elim (λ o. absurd (over o)) (λ o. o) (cases-lt q p)
   where
-    at : (Zs : List Symbol) (k : ℕ) → k < length Zs → (X : Symbol) × (Xs : List Symbol) × (drop k Zs ≡ X ∷ Xs)
-    at [] k l = absurd (omega arith)
-    at (X ∷ Zs) zero l = (X, Zs, refl)
-    at (X ∷ Zs) (suc k) l = at Zs k (omega arith)
-
     over : q < p → ⊥
     over o =
-        let i = at Ys q lq in
+        let i = symbol-there Ys q lq in
         let w = within-nullable Ys p q (i .0) (i .1) n (i .2) o in
         let d = drop-next Ys q (i .0) (i .1) (i .2) in
         ⊎-elim
@@ -127,32 +122,23 @@ module _ {G : CFG} (L : ℕ) (t : List ℕ) (z : Limits G) (s p b : ℕ) (before
       let k = is-nonterminal z s p b i l in
       let f = i .suffix ∙ ap (λ (Y : Symbol). Y ∷ drop (suc p) w) (k .0) in
       let r = leaders p (b - 128) (drop (suc p) w) before f in
-      subst (λ (u : List Symbol). Nullable G u) (sym (take-next w p (nonterminal (b - 128)) (drop (suc p) w) f))
+      subst (λ (u : List Symbol). Nullable G u) (sym (rw add-one (take-next w p (nonterminal (b - 128)) (drop (suc p) w) f)))
       (nullable-join before (count-nullable G (b - 128) (λ n. omega (arith, r .is))))
-    where
-      take-next : (Ys : List Symbol) (q : ℕ) (X : Symbol) (Xs : List Symbol) → drop q Ys ≡ X ∷ Xs → take (q + 1) Ys ≡ take q Ys ++ (X ∷ [])
-      take-next Ys q X Xs d = rw add-one (go Ys q d)
-        where
-          go : (Zs : List Symbol) (k : ℕ) → drop k Zs ≡ X ∷ Xs → take (suc k) Zs ≡ take k Zs ++ (X ∷ [])
-          go [] zero h = let y : _≡_ {A = ℕ} 0 1 = cc in absurd (omega arith)
-          go [] (suc k) h = let y : _≡_ {A = ℕ} 0 1 = cc in absurd (omega arith)
-          go (Z ∷ Zs) zero h = let j : Z ≡ X = cc in ap (λ (Y : Symbol). Y ∷ []) j
-          go (Z ∷ Zs) (suc k) h = ap {B = List Symbol} (λ (u : List Symbol). Z ∷ u) (go Zs k h)
 
   -- what counts nothing at length 0 ends the prefix
-  pub prefix-ends : ltb 0 (byte-count L t b 0) ≡ false → Needs-no-rest G (right-of (G .slot s)) p
+  pub prefix-ends : false ≡ ltb 0 (byte-count L t b 0) → Needs-no-rest G (right-of (G .slot s)) p
   prefix-ends e =
       ⊎-elim
       terminal-ends
-      (λ l. nonterminal-ends l (let f : byte-count L t b 0 ≡ cell-at L t (b - 128) 0 = rw (le-ltb b 128 l) in omega (arith, f, ltb-false 0 (byte-count L t b 0) e)))
+      (λ l. nonterminal-ends l (let f : byte-count L t b 0 ≡ cell-at L t (b - 128) 0 = rw (le-ltb b 128 l) in omega (arith, f, ltb-false 0 (byte-count L t b 0) (sym e))))
       (cases-lt b 128)
 
   -- and what counts something goes on
-  pub prefix-more : ltb 0 (byte-count L t b 0) ≡ true → Nullable G (take (p + 1) (right-of (G .slot s)))
+  pub prefix-more : true ≡ ltb 0 (byte-count L t b 0) → Nullable G (take (p + 1) (right-of (G .slot s)))
   prefix-more e =
       ⊎-elim
-      (λ l. let f : byte-count L t b 0 ≡ 0 = rw (lt-ltb b 128 l) in absurd (omega (arith, f, ltb-true 0 (byte-count L t b 0) e)))
-      (λ l. nonterminal-more l (let f : byte-count L t b 0 ≡ cell-at L t (b - 128) 0 = rw (le-ltb b 128 l) in omega (arith, f, ltb-true 0 (byte-count L t b 0) e)))
+      (λ l. let f : byte-count L t b 0 ≡ 0 = rw (lt-ltb b 128 l) in absurd (omega (arith, f, ltb-true 0 (byte-count L t b 0) (sym e))))
+      (λ l. nonterminal-more l (let f : byte-count L t b 0 ≡ cell-at L t (b - 128) 0 = rw (le-ltb b 128 l) in omega (arith, f, ltb-true 0 (byte-count L t b 0) (sym e))))
       (cases-lt b 128)
 
 -- once every nonterminal is done, the nonterminals of a right-hand side and its prefix are right

@@ -62,7 +62,7 @@ module _ {G : CFG} (z : Limits G) where
       ∙ ap (λ (Xs : List Symbol). suffix-sum L t Xs r m) (sym (i .suffix))
 
   -- what is read of a row gives its equation
-  pub read-is : (L : ℕ) (t : List ℕ) {ρ : Row} {r : ℕ} (x : Terms) → At-row G ρ r → Read-of G ρ x → (m : ℕ) → read-sum G L t x r m ≡ equation G L t ρ m
+  read-is : (L : ℕ) (t : List ℕ) {ρ : Row} {r : ℕ} (x : Terms) → At-row G ρ r → Read-of G ρ x → (m : ℕ) → read-sum G L t x r m ≡ equation G L t ρ m
   read-is L t {ρ} {r} x a h m = go ρ x (a .is) h
     where
       go : (σ : Row) (y : Terms) → r ≡ row-number G σ → Read-of G σ y → read-sum G L t y r m ≡ equation G L t σ m
@@ -71,6 +71,10 @@ module _ {G : CFG} (z : Limits G) where
       go (Suffix s p) (Slots B) e q = absurd q
       go (Suffix s p) (Split b empty) e q =
           split-is L t s p b m empty (symbol-at _ p b (q .0)) (q .1) r ∙ ap (λ (x : ℕ). suffix-sum L t (drop p (right-of (G .slot s))) x m) e
+
+  -- so a sum that is answered by what is read is answered by the equation
+  pub read-within : (L : ℕ) (t : List ℕ) {ρ : Row} {r : ℕ} (x : Terms) → At-row G ρ r → Read-of G ρ x → (m : ℕ) (o : Option ℕ) → Within (read-sum G L t x r m) o → Within (equation G L t ρ m) o
+  read-within L t x a h m o w = subst (λ (n : ℕ). Within n o) (read-is L t x a h m) w
 
   -- and speaks of rows of the table
   pub read-rows : {ρ : Row} {r : ℕ} (x : Terms) → At-row G ρ r → Read-of G ρ x → Terms-row G x r
@@ -99,9 +103,9 @@ not-agreed n h None w e i l = omega arith
 not-agreed n h (Some v) w e i l = eqb-false v h e (omega arith)
 
 -- a cell that does not agree with the sum of its row is the lowest broken one, where none below is broken
-pub row-broken : {G : CFG} {L : ℕ} {t : List ℕ} {ρ : Row} {r : ℕ} → At-row G ρ r → (m i n h : ℕ) (o : Option ℕ) → m ≤ L → Obey-below G L t (place L r m)
-    → i ≡ place L r m → Within n o → n ≡ equation G L t ρ m → h ≡ cell-at L t r m → agrees-with o h ≡ false → Lowest-broken G L t i
-row-broken {G} {L} {t} {ρ} {r} a m i n h o l below e w q k f = record {
+pub row-broken : {G : CFG} {L : ℕ} {t : List ℕ} {ρ : Row} {r : ℕ} → At-row G ρ r → (m i h : ℕ) (o : Option ℕ) → m ≤ L → Obey-below G L t (place L r m)
+    → i ≡ place L r m → Within (equation G L t ρ m) o → h ≡ cell-at L t r m → false ≡ agrees-with o h → Lowest-broken G L t i
+row-broken {G} {L} {t} {ρ} {r} a m i h o l below e w k f = record {
   row = ρ;
   at = m;
   is-row = a .is-row;
@@ -109,12 +113,12 @@ row-broken {G} {L} {t} {ρ} {r} a m i n h o l below e w q k f = record {
   here = e ∙ ap (λ (x : ℕ). place L x m) (a .is);
   broken = λ b.
       let c : h ≡ cell-at L t (row-number G ρ) m = k ∙ ap (λ (x : ℕ). cell-at L t x m) (a .is) in
-      not-agreed n h o w f (c ∙ b .equal ∙ sym q) (subst (λ (x : ℕ). x < 2 ^ 63) (sym c) (b .small));
+      not-agreed (equation G L t ρ m) h o w (sym f) (c ∙ b .equal) (subst (λ (x : ℕ). x < 2 ^ 63) (sym c) (b .small));
   below = subst (λ (x : ℕ). Obey-below G L t x) (sym e) below;
 }
 
-pub row-agrees : {G : CFG} {L : ℕ} {t : List ℕ} {ρ : Row} {r : ℕ} → At-row G ρ r → (m n h : ℕ) (o : Option ℕ) → m ≤ L → Obey-below G L t (place L r m)
-    → Within n o → n ≡ equation G L t ρ m → h ≡ cell-at L t r m → agrees-with o h ≡ true → Obey-below G L t (place L r (m + 1))
-row-agrees {G} {L} {t} a m n h o l below w q k f =
-    let d = agreed n h o w f in
-    obey-more G L t a m l below (sym k ∙ d .0 ∙ q) (subst (λ (x : ℕ). x < 2 ^ 63) k (d .1))
+pub row-agrees : {G : CFG} {L : ℕ} {t : List ℕ} {ρ : Row} {r : ℕ} → At-row G ρ r → (m h : ℕ) (o : Option ℕ) → m ≤ L → Obey-below G L t (place L r m)
+    → Within (equation G L t ρ m) o → h ≡ cell-at L t r m → true ≡ agrees-with o h → Obey-below G L t (place L r (m + 1))
+row-agrees {G} {L} {t} {ρ} a m h o l below w k f =
+    let d = agreed (equation G L t ρ m) h o w (sym f) in
+    obey-more G L t a m l below (sym k ∙ d .0) (subst (λ (x : ℕ). x < 2 ^ 63) k (d .1))

@@ -3,7 +3,7 @@ use mathlib.Core.Path.{_≡_, refl, sym, ap, subst, _∙_}
 use mathlib.Core.List.{List, [], _∷_, _++_}
 use Prim.Native.Nat.{ℕ, zero, suc, _+_, _-_, _≤_, _<_}
 use native.Mathlib.Omega.{arith}
-use lib.ListN.{length, drop}
+use lib.ListN.{length, drop, take}
 use Rattle.std.specs.declared.option.Option.the-variants.{None, Some}
 use Rattle.theory.specs.Lists.{In, here, there}
 use Rattle.theory.specs.Grammar.{Symbol, terminal, nonterminal, Slot, empty, rule, CFG}
@@ -22,6 +22,19 @@ in-drop [] zero X Xs e = let z : _≡_ {A = ℕ} 0 1 = cc in absurd (omega arith
 in-drop [] (suc p) X Xs e = let z : _≡_ {A = ℕ} 0 1 = cc in absurd (omega arith)
 in-drop (Y ∷ Ys) zero X Xs e = here (cc)
 in-drop (Y ∷ Ys) (suc p) X Xs e = there (in-drop Ys p X Xs e)
+
+-- a position in a list has a symbol
+pub symbol-there : (Ys : List Symbol) (p : ℕ) → p < length Ys → (X : Symbol) × (Xs : List Symbol) × (drop p Ys ≡ X ∷ Xs)
+symbol-there [] p l = absurd (omega arith)
+symbol-there (X ∷ Ys) zero l = (X, Ys, refl)
+symbol-there (X ∷ Ys) (suc p) l = symbol-there Ys p (omega arith)
+
+-- one symbol more
+pub take-next : (Ys : List Symbol) (p : ℕ) (X : Symbol) (Xs : List Symbol) → drop p Ys ≡ X ∷ Xs → take (suc p) Ys ≡ take p Ys ++ (X ∷ [])
+take-next [] zero X Xs e = let z : _≡_ {A = ℕ} 0 1 = cc in absurd (omega arith)
+take-next [] (suc p) X Xs e = let z : _≡_ {A = ℕ} 0 1 = cc in absurd (omega arith)
+take-next (Y ∷ Ys) zero X Xs e = let i : Y ≡ X = cc in ap (λ (Z : Symbol). Z ∷ []) i
+take-next (Y ∷ Ys) (suc p) X Xs e = ap {B = List Symbol} (λ (u : List Symbol). Y ∷ u) (take-next Ys p X Xs e)
 
 -- the symbol whose byte stands at p
 pub record Symbol-at (Ys : List Symbol) (p b : ℕ) : Type 0 where

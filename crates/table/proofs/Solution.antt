@@ -26,21 +26,9 @@ use Rattle.table.specs.Calls.{No-room, too-long, short-cells, Filled, Stopped,
 use Rattle.table.specs.Laws.{Equations-have-one-solution, Counts-fit-below-failure}
 use Rattle.table.specs.declared.Row.{Row}
 use Rattle.table.specs.declared.Row.the-variants.{Nonterminal, Suffix}
-use Rattle.table.proofs.Sides.{drop-next, nonterminal-known}
+use Rattle.table.proofs.Sides.{drop-next, symbol-there, take-next, nonterminal-known}
 use Rattle.table.proofs.Due.{suffix-due, nonterminal-due}
 use Rattle.table.proofs.Prefix.{end-last, leaders-of}
-
--- a position in a list has a symbol
-symbol-there : (Ys : List Symbol) (p : ℕ) → p < length Ys → (X : Symbol) × (Xs : List Symbol) × (drop p Ys ≡ X ∷ Xs)
-symbol-there [] p l = absurd (omega arith)
-symbol-there (X ∷ Ys) zero l = (X, Ys, refl)
-symbol-there (X ∷ Ys) (suc p) l = symbol-there Ys p (omega arith)
-
-take-next : (Ys : List Symbol) (p : ℕ) (X : Symbol) (Xs : List Symbol) → drop p Ys ≡ X ∷ Xs → take (suc p) Ys ≡ take p Ys ++ (X ∷ [])
-take-next [] zero X Xs e = let z : _≡_ {A = ℕ} 0 1 = cc in absurd (omega arith)
-take-next [] (suc p) X Xs e = let z : _≡_ {A = ℕ} 0 1 = cc in absurd (omega arith)
-take-next (Y ∷ Ys) zero X Xs e = let i : Y ≡ X = cc in ap (λ (Z : Symbol). Z ∷ []) i
-take-next (Y ∷ Ys) (suc p) X Xs e = ap {B = List Symbol} (λ (u : List Symbol). Y ∷ u) (take-next Ys p X Xs e)
 
 symbol-nullable : (G : CFG) (X : Symbol) → (symbol-count (count G) X 0 ≡ 0 → ⊥) → Nullable G (X ∷ [])
 symbol-nullable G (terminal t) ne = absurd (ne refl)

@@ -27,7 +27,7 @@ Same-past n before after = (length after ≡ length before) × ((k : ℕ) → n 
 abbrev pub Zeroed : ℕ → List ℕ → List ℕ → Type 0
 Zeroed n before after = ((k : ℕ) → k < n → getD after k 0 ≡ 0) × Same-past n before after
 
--- what a guard leaves: all as it is once accepted, else the first n cells 0
+-- what a guard leaves: all cells unchanged once accepted, else 0 in the first n
 abbrev pub Released : Bool → ℕ → List ℕ → List ℕ → Type 0
 Released true n before after = after ≡ before
 Released false n before after = Zeroed n before after

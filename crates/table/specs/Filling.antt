@@ -43,7 +43,7 @@ pub record Ready-at (G : CFG) (layout : Layout) (cells : List ℕ) (m : ℕ) : T
   pub short : m ≤ layout .bound
   pub below : Correct-below G (layout .bound) cells m
 
--- what was right before still is, and what the table does not need is as it was
+-- what was right before still is, and the cells that the table does not need are unchanged
 pub record Keeps (G : CFG) (L : ℕ) (before after : List ℕ) : Type 0 where
   pub long : length after ≡ length before
   pub still : (ρ : Row) (m : ℕ) → Row-of G ρ → m ≤ L → Correct G L before ρ m → Correct G L after ρ m

@@ -1,8 +1,6 @@
-use mathlib.Core.Path.{_≡_, refl, sym, ap, subst, _∙_}
-use Prim.Native.Nat.{ℕ, _+_, _*_, _≤_, _<_}
 use native.Mathlib.Omega.{arith}
 use Rattle.table.proofs.Rows.{row-small, row-cell, row-after}
-use Rattle.table.proofs.RowTerms.{read-is, read-rows, row-broken, row-agrees}
+use Rattle.table.proofs.RowTerms.{read-within, read-rows, row-broken, row-agrees}
 use Rattle.table.proofs.checking.check_row.Needs as need
 
 pub cell-held-requires : need.cell-held-requires
@@ -29,16 +27,15 @@ cell-number-requires g c κs =
 pub returns-then-not-agrees : need.returns-then-not-agrees
 returns-then-not-agrees g c =
     let f = g .G·Grammar·met .implements (c .args .g .now) in
-    row-broken (c .pre .stands) (c .loop-m .m) _ _ (c .cell-held .result) (c .sum-of .result) (omega arith) (c .loop-m .inv) (c .cell-number .ensures) (c .sum-of .ensures)
-    (read-is (f .limits) (c .args .layout .now .bound) (c .args .cells .now) (c .terms-of-terms .result) (c .pre .stands) (c .terms-of-terms .ensures) (c .loop-m .m))
-    (c .cell-held .ensures) (sym (c .if-not-agrees .ensures tt))
+    let w = read-within (f .limits) (c .args .layout .now .bound) (c .args .cells .now) (c .terms-of-terms .result) (c .pre .stands) (c .terms-of-terms .ensures) (c .loop-m .m) (c .sum-of .result) (c .sum-of .ensures) in
+    row-broken (c .pre .stands) (c .loop-m .m) (c .cell-number .result) (c .cell-held .result) (c .sum-of .result) (omega arith) (c .loop-m .inv) (c .cell-number .ensures) w
+    (c .cell-held .ensures) (c .if-not-agrees .ensures tt)
 
 pub loop-m-again : need.loop-m-again
 loop-m-again g c =
     let f = g .G·Grammar·met .implements (c .args .g .now) in
-    row-agrees (c .pre .stands) (c .loop-m .m) _ (c .cell-held .result) (c .sum-of .result) (omega arith) (c .loop-m .inv) (c .sum-of .ensures)
-    (read-is (f .limits) (c .args .layout .now .bound) (c .args .cells .now) (c .terms-of-terms .result) (c .pre .stands) (c .terms-of-terms .ensures) (c .loop-m .m))
-    (c .cell-held .ensures) (sym (c .if-not-agrees .ensures tt))
+    let w = read-within (f .limits) (c .args .layout .now .bound) (c .args .cells .now) (c .terms-of-terms .result) (c .pre .stands) (c .terms-of-terms .ensures) (c .loop-m .m) (c .sum-of .result) (c .sum-of .ensures) in
+    row-agrees (c .pre .stands) (c .loop-m .m) (c .cell-held .result) (c .sum-of .result) (omega arith) (c .loop-m .inv) w (c .cell-held .ensures) (c .if-not-agrees .ensures tt)
 
 pub returns : need.returns
 returns g c = rw (← row-after (c .args .layout .now .bound) (c .args .at) (c .loop-m .m) (omega arith)) (c .loop-m .inv)

@@ -1,11 +1,8 @@
-use mathlib.Core.Path.{_≡_, sym, subst, _∙_}
-use mathlib.Core.List.{List}
-use Prim.Native.Nat.{ℕ, _^_, _≤_, _<_}
 use native.Mathlib.Omega.{arith}
-use Rattle.table.specs.Filling.{Keeps, Correct}
+use Rattle.std.specs.declared.option.Option.the-variants.{None, Some}
 use Rattle.table.proofs.Rows.{row-small, row-cell}
-use Rattle.table.proofs.RowTerms.{read-is, read-rows}
-use Rattle.table.proofs.Fills.{keeps-all, put-right, put-keeps}
+use Rattle.table.proofs.RowTerms.{read-within, read-rows}
+use Rattle.table.proofs.Fills.{keeps-all, put-done}
 use Rattle.table.proofs.filling.fill.Needs as need
 
 pub sum-of-requires : need.sum-of-requires
@@ -26,20 +23,15 @@ put-requires g c κs =
 pub returns-in-rest : need.returns-in-rest
 returns-in-rest g c =
     let f = g .G·Grammar·met .implements (c .args .g .now) in
-    let is = read-is (f .limits) (c .args .layout .now .bound) (c .args .cells .now) (c .terms-of-terms .result) (c .pre .stands) (c .terms-of-terms .ensures) (c .args .m) in
+    let w = read-within (f .limits) (c .args .layout .now .bound) (c .args .cells .now) (c .terms-of-terms .result) (c .pre .stands) (c .terms-of-terms .ensures) (c .args .m) None (c .in-rest .ensures tt) in
     record {
       keeps = keeps-all;
-      done = record { row = c .args .row; is-row = c .pre .stands .is-row; over = omega (arith, c .in-rest .ensures tt, is, c .pre .due) };
+      done = record { row = c .args .row; is-row = c .pre .stands .is-row; over = omega (arith, w, c .pre .due) };
     }
 
 pub returns : need.returns
 returns g c =
-    let G = g .G·Grammar .meaning (c .args .g .now) in
     let f = g .G·Grammar·met .implements (c .args .g .now) in
-    let got = c .in-Some .ensures tt in
-    let is = read-is (f .limits) (c .args .layout .now .bound) (c .args .cells .now) (c .terms-of-terms .result) (c .pre .stands) (c .terms-of-terms .ensures) (c .args .m) ∙ c .pre .due in
-    let low = subst (λ (n : ℕ). n < 2 ^ 63) is (got .1) in
-    record {
-      keeps = subst (λ (u : List ℕ). Keeps G (c .args .layout .now .bound) (c .args .cells .now) u) (sym (c .put .ensures)) (put-keeps (c .pre .ready .room) (c .pre .stands) (c .args .m) (c .in-Some .value) (c .pre .short) (got .0 ∙ is) low);
-      done = subst (λ (u : List ℕ). Correct G (c .args .layout .now .bound) u (c .args .row) (c .args .m)) (sym (c .put .ensures)) (put-right (c .pre .ready .room) (c .pre .stands) (c .args .m) (c .in-Some .value) (c .pre .short) (got .0 ∙ is) low);
-    }
+    let w = read-within (f .limits) (c .args .layout .now .bound) (c .args .cells .now) (c .terms-of-terms .result) (c .pre .stands) (c .terms-of-terms .ensures) (c .args .m) (Some (c .in-Some .value)) (c .in-Some .ensures tt) in
+    let d = put-done (c .pre .ready .room) (c .pre .stands) (c .args .m) (c .in-Some .value) (c .pre .short) w (c .pre .due) (c .put .ensures) in
+    record { keeps = d .0; done = d .1 }

@@ -19,15 +19,15 @@ fill-prefix-requires g c κs =
     }
 
 pub returns-then-not-fill-prefix : need.returns-then-not-fill-prefix
-returns-then-not-fill-prefix g c = let got = c .if-not-fill-prefix .ensures tt in record { keeps = keeps-on (c .loop-s .inv .0) (got .keeps); done = got .done }
+returns-then-not-fill-prefix g c = let got = c .if-not-fill-prefix .ensures tt in record { keeps = keeps-on {v = c .fill-prefix .last .cells} (c .loop-s .inv .0) (got .keeps); done = got .done }
 
 pub loop-s-again : need.loop-s-again
 loop-s-again g c =
     let G = g .G·Grammar .meaning (c .args .g .now) in
     let got = c .if-not-fill-prefix .ensures tt in (
-      keeps-on (c .loop-s .inv .0) (got .keeps),
+      keeps-on {v = c .fill-prefix .last .cells} (c .loop-s .inv .0) (got .keeps),
       below-more (Prefix-correct-of G (c .args .layout .now .bound) (c .fill-prefix .last .cells) (c .args .a) (c .args .m)) (c .loop-s .s)
-          (λ q l. keeps-prefix (got .keeps) (c .pre .ready .short) (omega arith) (c .loop-s .inv .1 q l))
+          (λ q l. keeps-prefix {G = G} {u = c .fill-prefix .last .cells} (got .keeps) (c .pre .ready .short) (omega arith) (c .loop-s .inv .1 q l))
           (got .done),
     )
 
@@ -45,6 +45,6 @@ pub returns : need.returns
 returns g c =
     let end = c .fill .ensures in
     record {
-      keeps = keeps-on (c .loop-s .inv .0) (end .keeps);
+      keeps = keeps-on {v = c .fill .last .cells} (c .loop-s .inv .0) (end .keeps);
       done = done-more (c .fill .result) (c .pre .ready .short) (end .keeps) (λ q l. c .loop-s .inv .1 q (omega arith)) (end .done);
     }

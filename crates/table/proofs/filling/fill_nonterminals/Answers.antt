@@ -1,11 +1,9 @@
-use mathlib.Core.Path.{_≡_, refl, sym, ap, subst, _∙_}
-use mathlib.Core.Logic.{⊎-elim}
+use mathlib.Core.Path.{_≡_, sym, subst, _∙_}
 use mathlib.Core.List.{List}
 use Prim.Native.Nat.{ℕ, _+_, _≤_, _<_}
 use native.Mathlib.Omega.{arith}
-use Rattle.std.proofs.shelf.Tests.{cases-eq}
 use Rattle.table.specs.Filling.{Keeps, Done}
-use Rattle.table.proofs.Fills.{keeps-all, keeps-on, keeps-ready, keeps-done}
+use Rattle.table.proofs.Fills.{keeps-all, keeps-on, keeps-ready, level-more, level-skip, level-next}
 use Rattle.table.proofs.filling.fill_nonterminals.Needs.{then-level·else-not-fill-nonterminal, else-level}
 use Rattle.table.proofs.filling.fill_nonterminals.Needs as need
 
@@ -25,7 +23,7 @@ fill-nonterminal-requires g c κs =
 pub returns-then-not-fill-nonterminal : need.returns-then-not-fill-nonterminal
 returns-then-not-fill-nonterminal g c =
     let got = c .if-not-fill-nonterminal .ensures tt in
-    record { keeps = keeps-on (keeps-on (c .loop-level .inv .0) (c .loop-a .inv .0)) (got .keeps); done = got .done }
+    record { keeps = keeps-on {v = c .fill-nonterminal .last .cells} (keeps-on (c .loop-level .inv .0) (c .loop-a .inv .0)) (got .keeps); done = got .done }
 
 pub loop-a-again : need.loop-a-again
 loop-a-again g c =
@@ -38,27 +36,20 @@ loop-a-again g c =
     elim (c .if-level .came) [
       | then-level·else-not-fill-nonterminal w ↦
           let got = w .if-not-fill-nonterminal .ensures tt in
-          subst P (sym (w .cells-is)) (
-            keeps-on (c .loop-a .inv .0) (got .keeps),
-            (λ B l o. keeps-done (got .keeps) (c .pre .ready .short) l (c .loop-a .inv .1 B l o)),
-            (λ B l o. ⊎-elim (λ e. subst (λ (x : ℕ). D (w .fill-nonterminal .last .cells) x) (sym e) (got .done))
-                (λ ne. keeps-done (got .keeps) (c .pre .ready .short) (omega arith) (c .loop-a .inv .2 B (omega arith) o))
-                (cases-eq B (c .loop-a .a))),
-          )
+          let d = level-more {G = G} {t = c .loop-a .cells} {u = w .fill-nonterminal .last .cells} h (c .loop-level .level) (c .loop-a .a) (omega arith) (c .pre .ready .short)
+          (got .keeps) (got .done) (c .loop-a .inv .1) (c .loop-a .inv .2) in
+          subst P (sym (w .cells-is)) (keeps-on {v = w .fill-nonterminal .last .cells} (c .loop-a .inv .0) (got .keeps), d .0, d .1)
       | else-level w ↦
-          subst P (sym (w .cells-is)) (
-            c .loop-a .inv .0,
-            c .loop-a .inv .1,
-            (λ B l o. ⊎-elim (λ e. absurd (w .if-level .left (c .level .ensures ∙ ap h (sym e) ∙ o))) (λ ne. c .loop-a .inv .2 B (omega arith) o) (cases-eq B (c .loop-a .a))),
-          )
+          let other = level-skip (D (c .loop-a .cells)) h (c .loop-level .level) (c .loop-a .a) (λ e. w .if-level .left (_∙_ {b = h (c .loop-a .a)} (c .level .ensures) e)) (c .loop-a .inv .2) in
+          subst P (sym (w .cells-is)) (c .loop-a .inv .0, c .loop-a .inv .1, other)
     ]
 
 pub loop-level-again : need.loop-level-again
 loop-level-again g c =
-    let h = g .G·Grammar .levels (c .args .g .now) in (
-      keeps-on (c .loop-level .inv .0) (c .loop-a .inv .0),
-      λ B l o. ⊎-elim (λ e. c .loop-a .inv .2 B (omega arith) e) (λ ne. c .loop-a .inv .1 B l (omega arith)) (cases-eq (h B) (c .loop-level .level)),
-    )
+    let G = g .G·Grammar .meaning (c .args .g .now) in
+    let h = g .G·Grammar .levels (c .args .g .now) in
+    let D : ℕ → Type 0 = Done G (c .args .layout .now .bound) (c .loop-a .cells) (c .args .m) in
+    (keeps-on (c .loop-level .inv .0) (c .loop-a .inv .0), level-next D h (c .loop-level .level) (c .loop-a .inv .1) (λ B l e. c .loop-a .inv .2 B (omega arith) e))
 
 pub returns : need.returns
 returns g c =

@@ -19,13 +19,13 @@ fill-rest-requires g c κs =
     }
 
 pub returns-then-not-fill-rest : need.returns-then-not-fill-rest
-returns-then-not-fill-rest g c = let got = c .if-not-fill-rest .ensures tt in record { keeps = keeps-on (c .loop-s .inv .0) (got .keeps); done = got .done }
+returns-then-not-fill-rest g c = let got = c .if-not-fill-rest .ensures tt in record { keeps = keeps-on {v = c .fill-rest .last .cells} (c .loop-s .inv .0) (got .keeps); done = got .done }
 
 pub loop-s-again : need.loop-s-again
 loop-s-again g c =
     let G = g .G·Grammar .meaning (c .args .g .now) in
     let got = c .if-not-fill-rest .ensures tt in (
-      keeps-on (c .loop-s .inv .0) (got .keeps),
+      keeps-on {v = c .fill-rest .last .cells} (c .loop-s .inv .0) (got .keeps),
       below-more (λ s. (q : ℕ) → q < length (right-of (G .slot s)) → Correct G (c .args .layout .now .bound) (c .fill-rest .last .cells) (Suffix s q) (c .args .m)) (c .loop-s .s)
           (λ s l q o. got .keeps .still (Suffix s q) (c .args .m) (omega arith, o) (c .pre .ready .short) (c .loop-s .inv .1 s l q o))
           (got .done),

@@ -40,13 +40,13 @@ fill-requires g c κs =
     }
 
 pub returns-then-not-fill : need.returns-then-not-fill
-returns-then-not-fill g c = let got = c .if-not-fill .ensures tt in record { keeps = keeps-on (c .loop-position .inv .0) (got .keeps); done = got .done }
+returns-then-not-fill g c = let got = c .if-not-fill .ensures tt in record { keeps = keeps-on {v = c .fill .last .cells} (c .loop-position .inv .0) (got .keeps); done = got .done }
 
 pub loop-position-again : need.loop-position-again
 loop-position-again g c =
     let G = g .G·Grammar .meaning (c .args .g .now) in
     let got = c .if-not-fill .ensures tt in (
-      keeps-on (c .loop-position .inv .0) (got .keeps),
+      keeps-on {v = c .fill .last .cells} (c .loop-position .inv .0) (got .keeps),
       λ q o l. ⊎-elim
           (λ e. subst (λ (x : ℕ). Correct G (c .args .layout .now .bound) (c .fill .last .cells) (Suffix (c .args .s) x) (c .args .m)) (sym e) (got .done))
           (λ ne. got .keeps .still (Suffix (c .args .s) q) (c .args .m) (c .pre .inside, omega arith) (c .pre .ready .short) (c .loop-position .inv .1 q (omega arith) l))

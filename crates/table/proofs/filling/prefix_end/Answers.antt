@@ -31,13 +31,13 @@ returns-then-not-is-nullable g c =
     record {
       far = omega arith;
       before = c .loop-p .inv;
-      last = prefix-ends (c .args .layout .now .bound) (c .args .cells .now) (f .limits) (c .args .s) (c .loop-p .p) (c .in-Some .symbol) (c .loop-p .inv) (c .pre .leaders) (c .in-Some .ensures tt) (sym (c .if-not-is-nullable .ensures tt));
+      last = prefix-ends (c .args .layout .now .bound) (c .args .cells .now) (f .limits) (c .args .s) (c .loop-p .p) (c .in-Some .symbol) (c .loop-p .inv) (c .pre .leaders) (c .in-Some .ensures tt) (c .if-not-is-nullable .ensures tt);
     }
 
 pub loop-p-again : need.loop-p-again
 loop-p-again g c =
     let f = g .G·Grammar·met .implements (c .args .g .now) in
-    prefix-more (c .args .layout .now .bound) (c .args .cells .now) (f .limits) (c .args .s) (c .loop-p .p) (c .in-Some .symbol) (c .loop-p .inv) (c .pre .leaders) (c .in-Some .ensures tt) (sym (c .if-not-is-nullable .ensures tt))
+    prefix-more (c .args .layout .now .bound) (c .args .cells .now) (f .limits) (c .args .s) (c .loop-p .p) (c .in-Some .symbol) (c .loop-p .inv) (c .pre .leaders) (c .in-Some .ensures tt) (c .if-not-is-nullable .ensures tt)
 
 pub returns : need.returns
 returns g c =

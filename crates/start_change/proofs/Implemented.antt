@@ -11,7 +11,7 @@ use Rattle.grammar.specs.Interface.{Chooses, Implements}
 use Rattle.grammar.proofs.Smaller.{Rules-within, Equal-sizes, predict-within, limits-within, implements-within}
 use Rattle.start_change.specs.Started.{effective-start, with-start}
 
--- the start in force is a nonterminal
+-- the effective start is a nonterminal
 start-below : (G : CFG) (o : Option ℕ) → G .start < G .nonterminals → effective-start G o < G .nonterminals
 start-below G None h = h
 start-below G (Some A) h =

@@ -10,7 +10,7 @@ use Rattle.fault.specs.declared.Fault.{Fault}
 use Rattle.fault.specs.declared.Fault.the-variants.{SettingRefused}
 use Rattle.theory.specs.Grammar.{CFG}
 
--- the start in force: the stored one if it is a nonterminal, else that of the grammar below
+-- the effective start: the stored one if it is a nonterminal, else that of the grammar below
 abbrev pub effective-start : CFG → Option ℕ → ℕ
 effective-start G None = G .start
 effective-start G (Some A) = cond (ltb A (G .nonterminals)) A (G .start)

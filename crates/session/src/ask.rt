@@ -13,7 +13,13 @@ use std::alloc::AllocError;
 use std::alloc::Global;
 
 /// What such a command answers over a pile, a bound and these cells; none for a command that changes a setting.
-pub fn ask<P: Grammar>(heap: Global, pile: &P, bound: usize, cells: &mut [u64], command: Command) -> Result<Option<Answer>, AllocError>
+pub fn ask<P: Grammar>(
+    heap: Global,
+    pile: &P,
+    bound: usize,
+    cells: &mut [u64],
+    command: Command,
+) -> Result<Option<Answer>, AllocError>
     ensures { λ r. ⌜ made r (λ o. BySome o (Is-setting command × (now (cells .exit) ≡ now (cells .entry))) (Asks (meaning (now (pile .entry))) (chosen (now (pile .entry))) (levels (now (pile .entry))) bound (now (cells .entry)) (now (cells .exit)) command)) ⌝ }
 {
     match command {

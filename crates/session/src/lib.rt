@@ -3,8 +3,8 @@
 pub mod answer;
 pub mod ask;
 pub mod cells;
-pub mod settings;
-pub mod state;
 pub mod line;
 pub mod run;
+pub mod settings;
+pub mod state;
 pub mod work;

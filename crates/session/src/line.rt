@@ -13,7 +13,11 @@ use std::alloc::Global;
 
 impl Session<Brackets> {
     /// What a line, given without its line end, is answered by, if by anything, and the session after it.
-    pub fn answer(self, heap: Global, line: &[u8]) -> Result<(Session<Brackets>, Option<Answer>), AllocError>
+    pub fn answer(
+        self,
+        heap: Global,
+        line: &[u8],
+    ) -> Result<(Session<Brackets>, Option<Answer>), AllocError>
         ensures { λ r. ⌜ made r (λ p. Answers self (p .0) (now (line .entry)) (p .1)) ⌝ }
     {
         match read_line(line) {

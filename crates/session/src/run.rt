@@ -15,9 +15,9 @@ use brackets::BracketsGrammar;
 use fault::Fault;
 use restriction::Restriction;
 use restriction::RestrictionGrammar;
+use script::Command;
 use start_change::StartChange;
 use start_change::StartChangeGrammar;
-use script::Command;
 use std::alloc::AllocError;
 use std::alloc::Global;
 
@@ -88,7 +88,13 @@ impl Session<Brackets> {
     }
 
     // Lends other amounts of memory.
-    fn lend(mut self, heap: Global, cells: usize, stack: usize, output: usize) -> Result<(Session<Brackets>, Answer), AllocError>
+    fn lend(
+        mut self,
+        heap: Global,
+        cells: usize,
+        stack: usize,
+        output: usize,
+    ) -> Result<(Session<Brackets>, Answer), AllocError>
         ensures { λ r. ⌜ made r (λ p. Runs self (p .0) (Memory cells stack output) (p .1)) ⌝ }
     {
         self.cells = zeros(heap, cells)?;
@@ -106,18 +112,32 @@ impl Session<Brackets> {
     }
 
     // Answers a command that changes no setting.
-    fn question(mut self, heap: Global, command: Command) -> Result<(Session<Brackets>, Answer), AllocError>
+    fn question(
+        mut self,
+        heap: Global,
+        command: Command,
+    ) -> Result<(Session<Brackets>, Answer), AllocError>
         requires { ⌜ (Is-setting command → ⊥) ⌝ }
         ensures { λ r. ⌜ made r (λ p. Runs self (p .0) command (p .1)) ⌝ }
     {
-        match ask(heap, &self.pile, self.bound, self.cells.as_mut_slice(), command)? {
+        match ask(
+            heap,
+            &self.pile,
+            self.bound,
+            self.cells.as_mut_slice(),
+            command,
+        )? {
             Some(answer) => Ok((self, answer)),
             None => unreachable(),
         }
     }
 
     /// What a command answers, and the session after it.
-    pub fn run(self, heap: Global, command: Command) -> Result<(Session<Brackets>, Answer), AllocError>
+    pub fn run(
+        self,
+        heap: Global,
+        command: Command,
+    ) -> Result<(Session<Brackets>, Answer), AllocError>
         ensures { λ r. ⌜ made r (λ p. Runs self (p .0) command (p .1)) ⌝ }
     {
         match command {

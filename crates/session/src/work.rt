@@ -70,7 +70,12 @@ fn needed_for<P: Grammar>(pile: &P, bound: usize, cells: &mut [u64]) -> Result<u
 }
 
 /// The needed cells of the pile's table for a bound.
-pub fn show_table<P: Grammar>(heap: Global, pile: &P, bound: usize, cells: &mut [u64]) -> Result<Answer, AllocError>
+pub fn show_table<P: Grammar>(
+    heap: Global,
+    pile: &P,
+    bound: usize,
+    cells: &mut [u64],
+) -> Result<Answer, AllocError>
     ensures answer { λ r. ⌜ made r (Table-reply (meaning (now (pile .entry))) bound (now (cells .entry))) ⌝ }
     ensures cells { λ _. ⌜ now (cells .exit) ≡ now (cells .entry) ⌝ }
 {

@@ -8,3 +8,4 @@ pub mod Due
 pub mod Prefix
 pub mod Solution
 pub mod Calls
+pub mod Places

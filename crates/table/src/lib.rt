@@ -5,7 +5,7 @@
 
 ghost use Rattle.std.specs.Results.{Cases};
 ghost use Rattle.table.specs.Calls.{No-room, Has-room, Needed-answer, Count-answer, Check-answer};
-ghost use Rattle.table.specs.Laws.{Equations-have-one-solution, Counts-fit-below-failure};
+ghost use Rattle.table.specs.Laws.{Needed-cells-are-those-of-the-rows, Equations-have-one-solution, Counts-fit-below-failure};
 use checking::lowest_broken;
 use fault::Fault;
 use fault::Memory;
@@ -90,6 +90,11 @@ pub fn check<G: Grammar>(g: &G, table: &Table<'_>) -> Result<(), Fault>
         Some(i) => Err(Fault::BrokenCell(i as u64)),
     }
 }
+
+/// The needed cells are the cells of the rows, each of one row and one length.
+pub fn needed_cells_are_those_of_the_rows()
+    ensures { λ _. ⌜ Needed-cells-are-those-of-the-rows ⌝ }
+{}
 
 /// A table that satisfies all equations is the table of counts, and only that one does.
 pub fn equations_have_one_solution()

@@ -13,7 +13,7 @@ use std::alloc::AllocError;
 use std::alloc::Global;
 
 /// What such a command answers over a pile, a bound and these cells; none for a command that changes a setting.
-pub fn ask<P: Grammar>(
+pub(crate) fn ask<P: Grammar>(
     heap: Global,
     pile: &P,
     bound: usize,

@@ -5,7 +5,7 @@ ghost use Rattle.session.specs.Asked.{cell-answer, written-answer, written, fl
 use crate::answer::Answer;
 
 /// What a cell holds.
-pub fn cell(cells: &[u64], at: u64) -> Answer
+pub(crate) fn cell(cells: &[u64], at: u64) -> Answer
     ensures { λ r. ⌜ r ≡ cell-answer (now (cells .entry)) at ⌝ }
 {
     let at = at as usize;
@@ -17,7 +17,7 @@ pub fn cell(cells: &[u64], at: u64) -> Answer
 }
 
 /// Writes a cell.
-pub fn poke(cells: &mut [u64], at: u64, value: u64) -> Answer
+pub(crate) fn poke(cells: &mut [u64], at: u64, value: u64) -> Answer
     ensures answer { λ r. ⌜ r ≡ written-answer (now (cells .entry)) at ⌝ }
     ensures cells { λ _. ⌜ now (cells .exit) ≡ written (now (cells .entry)) at value ⌝ }
 {
@@ -31,7 +31,7 @@ pub fn poke(cells: &mut [u64], at: u64, value: u64) -> Answer
 }
 
 /// Turns one bit of one cell.
-pub fn flip(cells: &mut [u64], at: u64, bit: u64) -> Answer
+pub(crate) fn flip(cells: &mut [u64], at: u64, bit: u64) -> Answer
     ensures answer { λ r. ⌜ r ≡ flipped-answer (now (cells .entry)) at bit ⌝ }
     ensures cells { λ _. ⌜ now (cells .exit) ≡ flipped (now (cells .entry)) at bit ⌝ }
 {

@@ -16,10 +16,10 @@ use restriction::RestrictionGrammar;
 use start_change::StartChange;
 
 /// A start change over a restriction over a base.
-pub type Pile<B> = StartChange<Restriction<B>>;
+pub(crate) type Pile<B> = StartChange<Restriction<B>>;
 
 /// Makes both layers neutral again.
-pub fn neutral<B>(pile: Pile<B>) -> Pile<B>
+pub(crate) fn neutral<B>(pile: Pile<B>) -> Pile<B>
     ensures start { λ r. ⌜ r .start ≡ None ⌝ }
     ensures mask { λ r. ⌜ r .below .mask ≡ all-bits ⌝ }
     ensures base { λ r. ⌜ r .below .below ≡ pile .below .below ⌝ }
@@ -32,7 +32,7 @@ pub fn neutral<B>(pile: Pile<B>) -> Pile<B>
 }
 
 /// Sets the mask of the restriction.
-pub fn restrict<B: Grammar>(pile: Pile<B>, mask: u64) -> (Pile<B>, Result<(), Fault>)
+pub(crate) fn restrict<B: Grammar>(pile: Pile<B>, mask: u64) -> (Pile<B>, Result<(), Fault>)
     ensures answer { λ r. ⌜ Mask-set (B·Grammar .meaning (pile .below .below) .slots) mask (pile .below .mask) (r .0 .below .mask) (r .1) ⌝ }
     ensures start { λ r. ⌜ r .0 .start ≡ pile .start ⌝ }
     ensures base { λ r. ⌜ r .0 .below .below ≡ pile .below .below ⌝ }
@@ -44,7 +44,7 @@ pub fn restrict<B: Grammar>(pile: Pile<B>, mask: u64) -> (Pile<B>, Result<(), Fa
 }
 
 /// Sets the start of the start change.
-pub fn set_start<B: Grammar>(pile: Pile<B>, start: u8) -> (Pile<B>, Result<(), Fault>)
+pub(crate) fn set_start<B: Grammar>(pile: Pile<B>, start: u8) -> (Pile<B>, Result<(), Fault>)
     ensures answer { λ r. ⌜ r .1 ≡ start-answer (B·Grammar .meaning (pile .below .below) .nonterminals) start ⌝ }
     ensures start { λ r. ⌜ r .0 .start ≡ cond (ltb start (B·Grammar .meaning (pile .below .below) .nonterminals)) (Some start) (pile .start) ⌝ }
     ensures below { λ r. ⌜ r .0 .below ≡ pile .below ⌝ }
@@ -55,7 +55,7 @@ pub fn set_start<B: Grammar>(pile: Pile<B>, start: u8) -> (Pile<B>, Result<(), F
 }
 
 /// Sets the kinds of the bracket family at the base.
-pub fn set_kinds(pile: Pile<Brackets>, kinds: u8) -> (Pile<Brackets>, Result<(), Fault>)
+pub(crate) fn set_kinds(pile: Pile<Brackets>, kinds: u8) -> (Pile<Brackets>, Result<(), Fault>)
     ensures answer { λ r. ⌜ r .1 ≡ kinds-answer kinds ⌝ }
     ensures kinds { λ r. ⌜ r .0 .below .below .kinds ≡ cond (kinds-allowed kinds) kinds (pile .below .below .kinds) ⌝ }
     ensures mask { λ r. ⌜ r .0 .below .mask ≡ pile .below .mask ⌝ }

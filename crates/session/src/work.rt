@@ -19,7 +19,7 @@ use table::Table;
 use table::needed_cells;
 
 /// The pile's choice for a nonterminal and what comes next.
-pub fn choice<P: Grammar>(pile: &P, nonterminal: u8, next: NextWord) -> Answer
+pub(crate) fn choice<P: Grammar>(pile: &P, nonterminal: u8, next: NextWord) -> Answer
     ensures { λ r. ⌜ r ≡ slot-answer (chosen (now (pile .entry)) nonterminal (word-next next)) ⌝ }
 {
     let next = match next {
@@ -33,14 +33,14 @@ pub fn choice<P: Grammar>(pile: &P, nonterminal: u8, next: NextWord) -> Answer
 }
 
 /// The pile's level of a nonterminal.
-pub fn level<P: Grammar>(pile: &P, nonterminal: u8) -> Answer
+pub(crate) fn level<P: Grammar>(pile: &P, nonterminal: u8) -> Answer
     ensures { λ r. ⌜ r ≡ Answer.Level (levels (now (pile .entry)) nonterminal) ⌝ }
 {
     Answer::Level(pile.level(nonterminal))
 }
 
 /// Counts the pile's table for a bound in these cells.
-pub fn count<P: Grammar>(pile: &P, bound: usize, cells: &mut [u64]) -> Answer
+pub(crate) fn count<P: Grammar>(pile: &P, bound: usize, cells: &mut [u64]) -> Answer
     ensures { λ r. ⌜ Count-reply (meaning (now (pile .entry))) bound (now (cells .entry)) (now (cells .exit)) r ⌝ }
 {
     match table::count(pile, Table { cells, bound }) {
@@ -50,7 +50,7 @@ pub fn count<P: Grammar>(pile: &P, bound: usize, cells: &mut [u64]) -> Answer
 }
 
 /// Checks the pile's table for a bound in these cells.
-pub fn check<P: Grammar>(pile: &P, bound: usize, cells: &mut [u64]) -> Answer
+pub(crate) fn check<P: Grammar>(pile: &P, bound: usize, cells: &mut [u64]) -> Answer
     ensures answer { λ r. ⌜ Check-reply (meaning (now (pile .entry))) bound (now (cells .entry)) r ⌝ }
     ensures cells { λ _. ⌜ now (cells .exit) ≡ now (cells .entry) ⌝ }
 {
@@ -70,7 +70,7 @@ fn needed_for<P: Grammar>(pile: &P, bound: usize, cells: &mut [u64]) -> Result<u
 }
 
 /// The needed cells of the pile's table for a bound.
-pub fn show_table<P: Grammar>(
+pub(crate) fn show_table<P: Grammar>(
     heap: Global,
     pile: &P,
     bound: usize,

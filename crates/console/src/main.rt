@@ -1,8 +1,6 @@
 //! The console: a script of commands on standard input, one answer a line on standard output.
 
-use brackets::Brackets;
-use script::without_line_end;
-use session::state::Session;
+use session::Session;
 use std::error::AnyError;
 use std::io::BufRead;
 use std::io::BufReader;
@@ -18,7 +16,7 @@ fn run_script(rt: &LibcRuntime) -> Result<(), AnyError> {
         if input.read_until(b'\n', &mut line)? == 0 {
             break;
         }
-        let (next, answer) = session.answer(heap, without_line_end(line.as_slice()))?;
+        let (next, answer) = session.answer(heap, line.as_slice())?;
         session = next;
         if let Some(answer) = answer {
             rt.println(answer.text(heap)?)?;

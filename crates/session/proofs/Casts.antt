@@ -27,9 +27,6 @@ module _ {before after : Session Brackets} where
   pub answers-as : {c : Command} {a a′ : Answer} → a ≡ a′ → Runs before after c a′ → Runs before after c a
   answers-as {c} e h = subst (λ (x : Answer). Runs before after c x) (sym e) h
 
-  pub commands-as : {c c′ : Command} {a : Answer} → c ≡ c′ → Runs before after c′ a → Runs before after c a
-  commands-as {a = a} e h = subst (λ (x : Command). Runs before after x a) (sym e) h
-
 -- equal restrictions have equal kinds and masks
 pub below-kinds : {r r′ : Restriction Brackets} → r ≡ r′ → r .below .kinds ≡ r′ .below .kinds
 below-kinds e = ap {B = ℕ} (λ (r : Restriction Brackets). r .below .kinds) e

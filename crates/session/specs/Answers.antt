@@ -13,6 +13,7 @@ abbrev pub spaced : List ℕ → List ℕ
 spaced [] = []
 spaced (n ∷ ns) = 32 ∷ (decimal n ++ spaced ns)
 
+-- the text of each answer
 abbrev pub answer-text : Answer → List ℕ
 answer-text Done = codes "ok"
 answer-text Counted = codes "counted"

@@ -63,6 +63,6 @@ written cells i v = cond (ltb i (length cells)) (set cells i v) cells
 abbrev pub flipped-answer : List ℕ → ℕ → ℕ → Answer
 flipped-answer cells i b = cond (ltb i (length cells) && ltb b 64) Done NoSuchCell
 
--- the cells with bit b of cell i turned, if there is such a cell and such a bit
+-- the cells with bit b of cell i flipped, if there is such a cell and such a bit
 abbrev pub flipped : List ℕ → ℕ → ℕ → List ℕ
 flipped cells i b = cond (ltb i (length cells) && ltb b 64) (set cells i (bitXor (getD cells i 0) (2 ^ b))) cells

@@ -58,10 +58,28 @@ Is-setting (command.Cell i) = ⊥
 Is-setting (command.Flip i b) = ⊥
 Is-setting (command.Poke i v) = ⊥
 
--- the grammar of a session's pile, its choice and its levels
+-- whether a command asks for memory: to lend other cells, or to show the table
+abbrev pub Allocates : Command → Type 0
+Allocates (command.Brackets k) = ⊥
+Allocates command.Neutral = ⊥
+Allocates (command.Restrict m) = ⊥
+Allocates (command.Start s) = ⊥
+Allocates (command.Choice A w) = ⊥
+Allocates (command.Level A) = ⊥
+Allocates (command.Memory c s o) = Unit {0}
+Allocates (command.Bound b) = ⊥
+Allocates command.Count = ⊥
+Allocates command.Check = ⊥
+Allocates command.Table = Unit {0}
+Allocates (command.Cell i) = ⊥
+Allocates (command.Flip i b) = ⊥
+Allocates (command.Poke i v) = ⊥
+
+-- the grammar of a session's pile (its levels are all 0)
 abbrev pub session-grammar : Session Brackets → CFG
 session-grammar s = with-start (kept-slots (bracket-grammar (s .pile .below .below .kinds)) (s .pile .below .mask)) (s .pile .start)
 
+-- the choice of a session's pile
 abbrev pub session-choice : Session Brackets → ℕ → Next → Option ℕ
 session-choice s A n = kept-choice (s .pile .below .mask) (bracket-choice (s .pile .below .below .kinds) A n)
 

@@ -1,9 +1,11 @@
 //! The commands that ask a grammar or its table, or look at the cells.
 
+ghost use mathlib.Core.Bool.{true};
 ghost use mathlib.Core.Path.{_≡_};
 ghost use Rattle.std.specs.Options.{Cases as BySome};
+ghost use Rattle.std.specs.Results.{isOk};
 ghost use Rattle.std.specs.Vec.{made};
-ghost use Rattle.session.specs.Runs.{Asks, Is-setting};
+ghost use Rattle.session.specs.Runs.{Asks, Is-setting, Allocates};
 use crate::answer::Answer;
 use crate::cells;
 use crate::work;
@@ -20,7 +22,8 @@ pub(crate) fn ask<P: Grammar>(
     cells: &mut [u64],
     command: Command,
 ) -> Result<Option<Answer>, AllocError>
-    ensures { λ r. ⌜ made r (λ o. BySome o (Is-setting command × (now (cells .exit) ≡ now (cells .entry))) (Asks (meaning (now (pile .entry))) (chosen (now (pile .entry))) (levels (now (pile .entry))) bound (now (cells .entry)) (now (cells .exit)) command)) ⌝ }
+    ensures answer { λ r. ⌜ made r (λ o. BySome o (Is-setting command × (now (cells .exit) ≡ now (cells .entry))) (Asks (meaning (now (pile .entry))) (chosen (now (pile .entry))) (levels (now (pile .entry))) bound (now (cells .entry)) (now (cells .exit)) command)) ⌝ }
+    ensures answered { λ r. ⌜ ((Allocates command → ⊥) → isOk r ≡ true) ⌝ }
 {
     match command {
         Command::Choice { nonterminal, next } => Ok(Some(work::choice(pile, nonterminal, next))),

@@ -30,7 +30,7 @@ pub(crate) fn poke(cells: &mut [u64], at: u64, value: u64) -> Answer
     }
 }
 
-/// Turns one bit of one cell.
+/// Flips one bit of one cell.
 pub(crate) fn flip(cells: &mut [u64], at: u64, bit: u64) -> Answer
     ensures answer { λ r. ⌜ r ≡ flipped-answer (now (cells .entry)) at bit ⌝ }
     ensures cells { λ _. ⌜ now (cells .exit) ≡ flipped (now (cells .entry)) at bit ⌝ }

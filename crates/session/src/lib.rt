@@ -1,10 +1,15 @@
-//! The console's work: what each command of a script answers, and what it changes.
+//! The console's work: what each line of a script is answered by, and what it changes.
+//!
+//! `Session::new` is a session at first, `Session::answer` answers a line, `Session::run` a command, and `Answer::text` is the text of an answer.
 
-pub mod answer;
+mod answer;
 mod ask;
 mod cells;
-pub mod line;
-pub mod run;
+mod line;
+mod run;
 mod settings;
-pub mod state;
+mod state;
 mod work;
+
+pub use answer::Answer;
+pub use state::Session;

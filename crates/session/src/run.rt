@@ -1,11 +1,13 @@
 //! A session over the bracket family: what it is at first, and what a command does to it.
 
+ghost use mathlib.Core.Bool.{true};
 ghost use mathlib.Core.Path.{_≡_};
 ghost use lib.ListN.{replicate};
 ghost use Rattle.std.specs.Of.Vec.{vec-items};
+ghost use Rattle.std.specs.Results.{isOk};
 ghost use Rattle.std.specs.Vec.{made};
 ghost use Rattle.script.specs.declared.Command.the-variants.{Brackets as BracketsCommand, Neutral, Restrict, Start, Memory, Bound};
-ghost use Rattle.session.specs.Runs.{setting-answer, Is-setting, Runs, At-first};
+ghost use Rattle.session.specs.Runs.{setting-answer, Is-setting, Allocates, Runs, At-first};
 use crate::answer::Answer;
 use crate::ask::ask;
 use crate::settings;
@@ -104,7 +106,7 @@ impl Session<Brackets> {
     }
 
     // Takes another bound.
-    fn rebound(mut self, bound: usize) -> (Session<Brackets>, Answer)
+    fn set_bound(mut self, bound: usize) -> (Session<Brackets>, Answer)
         ensures { λ r. ⌜ Runs self (r .0) (Bound bound) (r .1) ⌝ }
     {
         self.bound = bound;
@@ -118,7 +120,8 @@ impl Session<Brackets> {
         command: Command,
     ) -> Result<(Session<Brackets>, Answer), AllocError>
         requires { ⌜ (Is-setting command → ⊥) ⌝ }
-        ensures { λ r. ⌜ made r (λ p. Runs self (p .0) command (p .1)) ⌝ }
+        ensures answer { λ r. ⌜ made r (λ p. Runs self (p .0) command (p .1)) ⌝ }
+        ensures answered { λ r. ⌜ ((Allocates command → ⊥) → isOk r ≡ true) ⌝ }
     {
         match ask(
             heap,
@@ -138,7 +141,8 @@ impl Session<Brackets> {
         heap: Global,
         command: Command,
     ) -> Result<(Session<Brackets>, Answer), AllocError>
-        ensures { λ r. ⌜ made r (λ p. Runs self (p .0) command (p .1)) ⌝ }
+        ensures answer { λ r. ⌜ made r (λ p. Runs self (p .0) command (p .1)) ⌝ }
+        ensures answered { λ r. ⌜ ((Allocates command → ⊥) → isOk r ≡ true) ⌝ }
     {
         match command {
             Command::Brackets { kinds } => Ok(self.brackets(kinds)),
@@ -150,7 +154,7 @@ impl Session<Brackets> {
                 stack,
                 output,
             } => self.lend(heap, cells, stack, output),
-            Command::Bound { bound } => Ok(self.rebound(bound)),
+            Command::Bound { bound } => Ok(self.set_bound(bound)),
             _ => self.question(heap, command),
         }
     }

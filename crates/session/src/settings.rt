@@ -15,7 +15,7 @@ use restriction::Restriction;
 use restriction::RestrictionGrammar;
 use start_change::StartChange;
 
-/// A start change over a restriction over a base.
+/// A pile is a grammar with the layers that stand over it; here a start change over a restriction over a base.
 pub(crate) type Pile<B> = StartChange<Restriction<B>>;
 
 /// Makes both layers neutral again.

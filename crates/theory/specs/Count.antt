@@ -67,6 +67,6 @@ unfoldable pub trees : CFG → ℕ → ℕ → ℕ → ℕ
 trees G zero A m = 0
 trees G (suc f) A m = sum-slots G A (λ s. side-count (trees G f) (right-of (G .slot s)) m) (G .slots)
 
--- the count of A at m, computed: no tree with m terminal leaves has more than 16 × (m + 1) nonterminals on a path (a law says that this is how many sentences there are)
+-- the count of A at m, computed: where there are levels, no tree with m terminal leaves has more than 16 × (m + 1) nonterminals on a path (a law says that this is how many sentences there are)
 unfoldable pub count : CFG → ℕ → ℕ → ℕ
 count G A m = trees G (16 * m + 16) A m

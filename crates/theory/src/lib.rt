@@ -4,7 +4,7 @@
 
 ghost use Rattle.theory.specs.Theorems.{Sets-mean-what-they-say, Counts-and-ranks-are-unique, Ascending-lists-lengths, One-parse, Rank-below-count, Ranks-number-the-sentences, Sentences-are-listed-in-split-order, Split-order-is-strict-and-total, Count-is-sum-of-slots, Computed-counts-are-counts, At-most-one-way-to-nothing};
 
-/// Derivations, nullable symbols, FIRST, FOLLOW and left corners are what the forms say that symbols rewrite to.
+/// Derivations, nullable, FIRST, FOLLOW and left-corner steps agree with the rewriting of sentential forms.
 pub fn sets_mean_what_they_say()
     ensures { λ _. ⌜ Sets-mean-what-they-say ⌝ }
 {}

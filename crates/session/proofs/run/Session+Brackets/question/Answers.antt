@@ -8,5 +8,10 @@ use Rattle.session.proofs.run.Session+Brackets.question.Needs as need
 
 pub returns : need.returns
 returns c =
-    runs.asks (c .args .command) (c .in-Some .answer) (record { kinds = refl; mask = refl; start = refl }) (record { stack = refl; output = refl; bound = refl })
-    (cells-as (sym (c .as-mut-slice .ensures .value)) (refilled-is (c .args .self .cells) (c .ask .last .cells) (omega arith)) (cases-at-some _ _ (c .in-Some .answer) (c .in-Some .is) (c .in-Continue-answer .ensures tt)))
+    record {
+      answer =
+          runs.asks (c .args .command) (c .in-Some .answer) (record { kinds = refl; mask = refl; start = refl }) (record { stack = refl; output = refl; bound = refl })
+          (cells-as (sym (c .as-mut-slice .ensures .value)) (refilled-is (c .args .self .cells) (c .ask .last .cells) (omega arith))
+          (cases-at-some _ _ (c .in-Some .answer) (c .in-Some .is) (c .in-Continue-answer .ensures tt .answer)));
+      answered = λ h. refl;
+    }

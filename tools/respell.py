@@ -117,7 +117,7 @@ def main(argv):
     crates = set(os.listdir(os.path.join(root, "crates")))
     own = own_names(root, crates)
     table = {n: respelled(n) for n in own}
-    table |= {"CFG": "Cfg", "LL1": "Ll1"}
+    table |= {"CFG": "Cfg", "LL1": "Ll1", "Sound-prop": "sound_prop"}
     taken, clash = {}, []
     plain = set()
     for path in texts(root):

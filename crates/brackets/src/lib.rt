@@ -1,5 +1,7 @@
 //! The grammar of 1 to 16 kinds of brackets.
 
+#![tactic(auto)]
+
 ghost use Rattle.std.specs.Prelude.{◌≡◌, ◌≤◌, if◌then◌else◌};
 ghost use Rattle.brackets.specs.Brackets.{bracket_grammar, bracket_choice, kinds_allowed, kinds_answer};
 ghost use Rattle.brackets.specs.Laws.{SentencesAreBrackets};

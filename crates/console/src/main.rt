@@ -1,5 +1,7 @@
 //! The console: a script of commands on standard input, one answer a line on standard output.
 
+#![tactic(auto)]
+
 use session::Session;
 use std::io::{BufRead, BufReader};
 

@@ -1,5 +1,7 @@
 //! Expanding: the sentence of a length with a number.
 
+#![tactic(auto)]
+
 ghost use Rattle.std.specs.Prelude.{◌≡◌, ℕ, ◌+◌, ◌*◌, ◌<◌, ◌≤◌, length, Some, MatchResult};
 ghost use Rattle.fault.specs.declared.Fault.TheVariants.{NumberTooLarge};
 ghost use Rattle.theory.specs.Order.{ascending};

@@ -1,5 +1,7 @@
 //! What can be refused: each fault has a number, a stage and a place.
 
+#![tactic(auto)]
+
 ghost use Rattle.std.specs.Prelude.{◌≡◌, Some, Decides};
 ghost use Rattle.fault.specs.Faults.{fault_number, fault_stage, stage_number, memory_place, fault_place, same_fault, fault_text, NumberAndPlaceIdentify};
 ghost use Rattle.std.specs.Cmp.Rules.{comparing};

@@ -8,7 +8,7 @@ use denote.Struct.Props.{props}
 use Rattle.std.proofs.lemmas.Bool.{cases_eq}
 use Rattle.theory.specs.Grammar.{Cfg, Symbol, terminal, nonterminal, empty, symbol_set, slot_set}
 use Rattle.theory.specs.Sets.{Next}
-use Rattle.theory.specs.Sound.{Known, Limits, Sound, Levels, limits_prop, SoundProp, levels_prop}
+use Rattle.theory.specs.Sound.{Known, Limits, Sound, Levels, limits_prop, sound_prop, levels_prop}
 use Rattle.grammar.specs.Interface.{Chooses, Implements, chooses_prop, implements_prop}
 
 -- options of numbers are equal or not
@@ -31,7 +31,7 @@ pub one_limits : {G : Cfg} → IsProp (Limits G)
 one_limits {G} = limits_prop (hlevel props) (hlevel props) (hlevel props) (hlevel props) (hlevel props) (hlevel props) (Π_prop (λ s. Π_prop (λ h. slot_set ℕ_set (is_set (symbol_set ℕ_set)) (G.slot s) empty))) (hlevel props) (hlevel props) (search (props, one_known) depth 10)
 
 pub one_sound : {G : Cfg} → IsProp (Sound G)
-one_sound = SoundProp (hlevel props) (hlevel props) (Π_prop (λ s. Π_prop (λ s'. Π_prop (λ A. Π_prop (λ Ys. Π_prop (λ Ys'. Π_prop (λ n. hlevel props)))))))
+one_sound = sound_prop (hlevel props) (hlevel props) (Π_prop (λ s. Π_prop (λ s'. Π_prop (λ A. Π_prop (λ Ys. Π_prop (λ Ys'. Π_prop (λ n. hlevel props)))))))
 
 pub one_levels : {G : Cfg} {level : ℕ → ℕ} → IsProp (Levels G level)
 one_levels = levels_prop (hlevel props) (hlevel props)

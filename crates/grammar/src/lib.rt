@@ -1,5 +1,7 @@
 //! The interface of grammars: what every grammar answers, and what it owes.
 
+#![tactic(auto)]
+
 ghost use Rattle.std.specs.Prelude.{◌≡◌, ℕ, length, Option};
 ghost use Rattle.theory.specs.Grammar.{Cfg};
 ghost use Rattle.theory.specs.Sets.{Next};

@@ -1,5 +1,7 @@
 //! Numbering: how many sentences of the start precede one of the same length in split order.
 
+#![tactic(auto)]
+
 ghost use Rattle.std.specs.Prelude.{◌≡◌, length};
 ghost use Rattle.table.specs.Checked.{CheckedAnswer};
 ghost use Rattle.numbering.specs.Calls.{lent_stack, NumberAnswer};

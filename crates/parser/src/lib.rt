@@ -2,6 +2,8 @@
 //!
 //! The definitions stand in `specs/`. A function here does nothing; it exists so that the check asks for the proof. The laws hold whatever the choice answers where no predict set holds what comes next.
 
+#![tactic(auto)]
+
 ghost use Rattle.parser.specs.Laws.{GoesThroughExactlyForSentences, EndsInOneWay};
 
 use grammar::Grammar;

@@ -1,5 +1,7 @@
 //! The layer that keeps only some slots of the grammar below.
 
+#![tactic(auto)]
+
 ghost use Rattle.std.specs.Prelude.{◌≡◌};
 ghost use Rattle.restriction.specs.Masks.{keeps, all_bits, KeepsAll, LowestFrom};
 ghost use Rattle.restriction.specs.Restricted.{kept_slots, kept_choice, MaskSet};

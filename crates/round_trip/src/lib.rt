@@ -2,6 +2,8 @@
 //!
 //! The laws are stated over the answers of the public calls, so they hold of whatever `expanding::expand` and `numbering::number` answer and leave.
 
+#![tactic(auto)]
+
 ghost use Rattle.round_trip.specs.Laws.{NumberingUndoesExpanding, ExpandingUndoesNumbering};
 
 use grammar::Grammar;

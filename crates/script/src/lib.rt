@@ -24,6 +24,8 @@
 //!
 //! A line that is not blank and says no command, or has more than 1,000,000 bytes, is unreadable.
 
+#![tactic(auto)]
+
 ghost use Rattle.script.specs.Laws.{EveryCommand, OneCommand, OneReading};
 ghost use Rattle.script.specs.LineEnd.{EndsIn, LineEndOff};
 ghost use Rattle.script.specs.Says.{IsBlank, Reads, Says};

@@ -2,6 +2,8 @@
 //!
 //! `Session::new` is a session at first, `Session::answer` answers a line, `Session::run` a command, and `Answer::text` is the text of an answer.
 
+#![tactic(auto)]
+
 mod answer;
 mod ask;
 mod cells;

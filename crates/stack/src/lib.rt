@@ -1,5 +1,7 @@
 //! A stack over entries that the caller lends.
 
+#![tactic(auto)]
+
 ghost use Rattle.std.specs.Prelude.{◌≡◌, ◌+◌, ◌<◌, ◌≤◌, length, slice_index_or, slice_set};
 ghost use Rattle.stack.specs.Held.{held, first_of, Pushed, Popped};
 

@@ -1,5 +1,7 @@
 //! The layer that changes the start of the grammar below.
 
+#![tactic(auto)]
+
 ghost use Rattle.std.specs.Prelude.{◌≡◌, if◌then◌else◌, Some, None, nat_lt};
 ghost use Rattle.start_change.specs.Started.{with_start, start_answer};
 ghost use Rattle.start_change.specs.Laws.{DerivationsAreThoseBelow, StartIsStoredOrBelow};

@@ -3,6 +3,8 @@
 //! A table for the bound L has a row for each nonterminal, then for each filled slot in order a row for each suffix of its right-hand side but the empty one.
 //! A row holds a cell for each of the lengths 0 to L.
 
+#![tactic(auto)]
+
 ghost use Rattle.std.specs.Prelude.{IfOk, Decides, MatchResult};
 ghost use Rattle.table.specs.Calls.{NoRoom, HasRoom, NeededAnswer, CountAnswer, CheckAnswer};
 ghost use Rattle.table.specs.Checked.{Short, SufficientLayout, Insufficient, CheckedAnswer};

@@ -40,7 +40,7 @@ pub record Sound (G : Cfg) : Type 0 where
   pub no_long_nullable_side : NoLongNullableSide G
   pub no_left_recursion : NoLeftRecursion G
   pub predict_sets_apart : PredictSetsApart G
-  deriving IsProp as SoundProp
+  deriving IsProp as sound_prop
 
 -- levels: a number below 16 for each nonterminal, which falls from it to each of its left corners
 pub record Levels (G : Cfg) (level : ℕ → ℕ) : Type 0 where

@@ -2,6 +2,8 @@
 //!
 //! The definitions stand in `specs/`, the statements in `specs/Theorems.antt`. A function here does nothing; it exists so that the check asks for the proof.
 
+#![tactic(auto)]
+
 ghost use Rattle.theory.specs.Theorems.{SetsMeanWhatTheySay, CountsAndRanksAreUnique, AscendingListsLengths, OneParse, RankBelowCount, RanksNumberTheSentences, SentencesAreListedInSplitOrder, SplitOrderIsStrictAndTotal, CountIsSumOfSlots, ComputedCountsAreCounts, AtMostOneWayToNothing};
 
 /// Derivations, nullable, FIRST, FOLLOW and left-corner steps agree with the rewriting of sentential forms.

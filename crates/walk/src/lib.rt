@@ -1,5 +1,7 @@
 //! What expanding and numbering share: the order of part lengths, sums over them, what a number stands for, and how many frames are open.
 
+#![tactic(auto)]
+
 ghost use Rattle.std.specs.Prelude.{◌≡◌, if◌then◌else◌, nat_le, slice_index};
 ghost use Rattle.theory.specs.Order.{LengthOrder, ListsLengths, ascending};
 ghost use Rattle.theory.proofs.Ascending.{ascending_lists};

@@ -57,10 +57,10 @@ fn divide<O: LengthPolicy>(policy: &O, first: &[u64], rest: &[u64], m: usize, ra
 
 /// The frame for the sentence of `a` with that length and rank: of the slot at which the rank stands in the sum over the slots.
 pub(crate) fn open<G: Grammar>(g: &G, counts: &Counts<'_>, a: u8, m: u8, rank: u64) -> Frame
-    requires sound { SoundCounts (meaning g.now) counts.now }
+    requires sound { SoundCounts (G.meaning g.now) counts.now }
     requires short { m ≤ counts.now.bound }
-    requires low { rank < count (meaning g.now) a m }
-    ensures { Opened (meaning g.now) a m rank result }
+    requires low { rank < count (G.meaning g.now) a m }
+    ensures { Opened (G.meaning g.now) a m rank result }
 {
     let mut left = rank;
     for slot in 0..g.slots() {
@@ -87,10 +87,10 @@ pub(crate) fn first_part<G: Grammar, O: LengthPolicy>(
     f: Frame,
     a: u8,
 ) -> Part
-    requires sound { SoundCounts (meaning g.now) counts.now }
-    requires frame { FrameOf (order policy.now) (meaning g.now) counts.now.bound f }
-    requires before { AtNonterminal (meaning g.now) f a }
-    ensures { Parted (order policy.now) (meaning g.now) f a result }
+    requires sound { SoundCounts (G.meaning g.now) counts.now }
+    requires frame { FrameOf (order policy.now) (G.meaning g.now) counts.now.bound f }
+    requires before { AtNonterminal (G.meaning g.now) f a }
+    ensures { Parted (order policy.now) (G.meaning g.now) f a result }
 {
     if f.position + 1 == g.length(f.slot) {
         return Part {

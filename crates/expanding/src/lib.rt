@@ -29,7 +29,7 @@ fn counts_of<'a, G: Grammar>(
     stack: usize,
     output: usize,
 ) -> Result<Counts<'a>, Fault>
-    ensures { CheckedAnswer (meaning g.now) table.now.bound table.now.cells.now n (record { stack = Some stack; output = Some output }) result }
+    ensures { CheckedAnswer (G.meaning g.now) table.now.bound table.now.cells.now n (record { stack = Some stack; output = Some output }) result }
 {
     let lent = Lent {
         stack: Some(stack),
@@ -59,11 +59,11 @@ fn write_numbered<G: Grammar, O: LengthPolicy>(
     stack: &mut [Frame],
     output: &mut [u8],
 ) -> Result<(), Fault>
-    requires sound { SoundCounts (meaning g.now) counts.now }
+    requires sound { SoundCounts (G.meaning g.now) counts.now }
     requires short { n ≤ counts.now.bound }
-    requires stack { (n + 1) * (meaning g.now).nonterminals ≤ length stack.old }
+    requires stack { (n + 1) * (G.meaning g.now).nonterminals ≤ length stack.old }
     requires output { n ≤ length output.old }
-    ensures { SentenceAnswer (order policy.now) (meaning g.now) n number output.old output.new result }
+    ensures { SentenceAnswer (order policy.now) (G.meaning g.now) n number output.old output.new result }
 {
     let count = counts.row(Row::Nonterminal(g.start()))[n];
     below_count(number, count)?;
@@ -81,7 +81,7 @@ fn expand_by<G: Grammar, O: LengthPolicy>(
     stack: &mut [Frame],
     output: &mut [u8],
 ) -> Result<(), Fault>
-    ensures { ExpandAnswer (order policy.now) (meaning g.now) table.now.bound table.now.cells.now n number stack.old output.old output.new result }
+    ensures { ExpandAnswer (order policy.now) (G.meaning g.now) table.now.bound table.now.cells.now n number stack.old output.old output.new result }
 {
     let counts = counts_of(g, table, n, stack.len(), output.len())?;
     write_numbered(g, policy, &counts, n, number, stack, output)
@@ -101,7 +101,7 @@ pub fn expand<G: Grammar>(
     stack: &mut [Frame],
     output: &mut [u8],
 ) -> Result<(), Fault>
-    ensures { ExpandAnswer ascending (meaning g.now) table.now.bound table.now.cells.now length number stack.old output.old output.new result }
+    ensures { ExpandAnswer ascending (G.meaning g.now) table.now.bound table.now.cells.now length number stack.old output.old output.new result }
 {
     expand_by(g, &ShortestFirst, table, length, number, stack, output)
 }

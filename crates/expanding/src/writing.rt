@@ -24,12 +24,12 @@ pub(crate) fn write<G: Grammar, O: LengthPolicy>(
     entries: &mut [Frame],
     output: &mut [u8],
 )
-    requires sound { SoundCounts (meaning g.now) counts.now }
+    requires sound { SoundCounts (G.meaning g.now) counts.now }
     requires short { n ≤ counts.now.bound }
-    requires low { number < count (meaning g.now) (meaning g.now).start n }
-    requires stack { (n + 1) * (meaning g.now).nonterminals ≤ length entries.old }
+    requires low { number < count (G.meaning g.now) (G.meaning g.now).start n }
+    requires stack { (n + 1) * (G.meaning g.now).nonterminals ≤ length entries.old }
     requires output { n ≤ length output.old }
-    ensures { Written (order policy.now) (meaning g.now) n number output.old output.new }
+    ensures { Written (order policy.now) (G.meaning g.now) n number output.old output.new }
 {
     let mut stack = Stack::over(entries);
     let mut frame = open(g, counts, g.start(), n as u8, number);

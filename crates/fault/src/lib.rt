@@ -4,9 +4,7 @@
 
 ghost use Rattle.std.specs.Prelude.{◌≡◌, Some, Decides};
 ghost use Rattle.fault.specs.Faults.{fault_number, fault_stage, stage_number, memory_place, fault_place, same_fault, fault_text, NumberAndPlaceIdentify};
-ghost use Rattle.std.specs.Cmp.Rules.{comparing};
-ghost use Rattle.std.proofs.Common.{rules};
-ghost use Rattle.std.specs.Cmp as Keys;
+ghost use Rattle.fault.specs.Equality.{same_fault_equivalence, same_fault_partial_equivalence};
 
 use std::fmt;
 
@@ -192,19 +190,22 @@ fn same(x: Fault, y: Fault) -> bool
     x.number() == y.number() && x.place() == y.place()
 }
 
-// Derived, `==` would promise nothing, since there are so many cases.
+// The derived `==` would compare case by case; this one compares number and place, which decide equality.
 impl PartialEq for Fault {
-    ghost equals = { λ x y r. Decides r (x ≡ y) };
+    ghost eq = { same_fault };
 
-    ghost laws = { Keys.partial_equiv_from_equiv (Prim.search (comparing, rules)) };
+    ghost laws = { same_fault_partial_equivalence };
 
-    fn eq(&self, other: &Fault) -> bool {
+    fn eq(&self, other: &Fault) -> bool
+        ensures computes { result ≡ same_fault self.now other.now }
+        ensures decides { Decides result (self.now ≡ other.now) }
+    {
         same(*self, *other)
     }
 }
 
 impl Eq for Fault {
-    ghost laws = { Prim.search (comparing, rules) };
+    ghost laws = { same_fault_equivalence };
 }
 
 /// A fault is known by its number and its place.

@@ -28,7 +28,7 @@ one_known T N (terminal t) = hlevel props
 one_known T N (nonterminal A) = hlevel props
 
 pub one_limits : {G : Cfg} → IsProp (Limits G)
-one_limits {G} = limits_prop (hlevel props) (hlevel props) (hlevel props) (hlevel props) (hlevel props) (hlevel props) (Π_prop (λ s. Π_prop (λ h. slot_set ℕ_set (is_set (symbol_set ℕ_set)) (G.slot s) empty))) (hlevel props) (hlevel props) (search (props, one_known) depth 10)
+one_limits {G} = limits_prop (hlevel props) (hlevel props) (hlevel props) (hlevel props) (hlevel props) (hlevel props) (Π_prop (λ s. Π_prop (λ h. slot_set ℕ_set (is_set (symbol_set ℕ_set)) (G.slot s) empty))) (hlevel props) (hlevel props) (Π_prop (λ s. Π_prop (λ A. Π_prop (λ Ys. Π_prop (λ X. Π_prop (λ r. Π_prop (λ i. one_known G.terminals G.nonterminals X)))))))
 
 pub one_sound : {G : Cfg} → IsProp (Sound G)
 one_sound = sound_prop (hlevel props) (hlevel props) (Π_prop (λ s. Π_prop (λ s'. Π_prop (λ A. Π_prop (λ Ys. Π_prop (λ Ys'. Π_prop (λ n. hlevel props)))))))
@@ -37,7 +37,10 @@ pub one_levels : {G : Cfg} {level : ℕ → ℕ} → IsProp (Levels G level)
 one_levels = levels_prop (hlevel props) (hlevel props)
 
 pub one_choice : {G : Cfg} {chosen : ℕ → Next → Option ℕ} → IsProp (Chooses G chosen)
-one_choice = chooses_prop (search (props, option_set) depth 8) (search (props, option_set) depth 8) (search (props, option_set) depth 8)
+one_choice =
+    chooses_prop (Π_prop (λ A. Π_prop (λ s. Π_prop (λ n. Π_prop (λ e. option_set _ _)))))
+    (Π_prop (λ A. Π_prop (λ s. Π_prop (λ Ys. Π_prop (λ n. Π_prop (λ r. Π_prop (λ p. option_set _ _)))))))
+    (Π_prop (λ A. Π_prop (λ t. Π_prop (λ o. option_set _ _))))
 
 -- what a grammar owes has at most one proof
 pub one_implements : {G : Cfg} {chosen : ℕ → Next → Option ℕ} {level : ℕ → ℕ} → IsProp (Implements G chosen level)

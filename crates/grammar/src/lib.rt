@@ -72,12 +72,12 @@ pub trait Grammar {
 
 /// Every grammar keeps the limits and is sound, and its levels are levels: the laws of the theory apply to it.
 pub fn sound<G: Grammar>(g: &G)
-    ensures limits { Limits (meaning g.now) }
-    ensures sound { Sound (meaning g.now) }
-    ensures ll1 { Ll1 (meaning g.now) (levels g.now) }
+    ensures limits { Limits (G.meaning g.now) }
+    ensures sound { Sound (G.meaning g.now) }
+    ensures ll1 { Ll1 (G.meaning g.now) (G.levels g.now) }
 {}
 
 /// Every grammar answers none, or 0 for a length or a level, where a question is out of range.
 pub fn outside_is_none<G: Grammar>(g: &G)
-    ensures { OutsideIsNone (meaning g.now) (chosen g.now) (levels g.now) }
+    ensures { OutsideIsNone (G.meaning g.now) (G.chosen g.now) (G.levels g.now) }
 {}

@@ -24,7 +24,7 @@ fn counts_for<'a, G: Grammar>(
     tokens: &[u8],
     entries: usize,
 ) -> Result<Counts<'a>, Fault>
-    ensures { CheckedAnswer (meaning g.now) table.now.bound table.now.cells.now (length tokens.now) (lent_stack entries) result }
+    ensures { CheckedAnswer (G.meaning g.now) table.now.bound table.now.cells.now (length tokens.now) (lent_stack entries) result }
 {
     let lent = Lent {
         stack: Some(entries),
@@ -51,7 +51,7 @@ pub fn number<G: Grammar>(
     tokens: &[u8],
     stack: &mut [Frame],
 ) -> Result<u64, Fault>
-    ensures { NumberAnswer (meaning g.now) (chosen g.now) table.now.bound table.now.cells.now (length stack.old) tokens.now result }
+    ensures { NumberAnswer (G.meaning g.now) (G.chosen g.now) table.now.bound table.now.cells.now (length stack.old) tokens.now result }
 {
     let counts = counts_for(g, table, tokens, stack.len())?;
     match parse(g, &ShortestFirst, &counts, tokens, stack) {

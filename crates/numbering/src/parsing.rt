@@ -50,7 +50,7 @@ fn open<G: Grammar>(
     a: u8,
 ) -> bool
     requires { suspended.old.depth < room_of suspended.old }
-    ensures opens { Opens (chosen g.now a (next_of (drop gone tokens.now))) frame.old (suspended_frames suspended.old) frame.new (suspended_frames suspended.new) result }
+    ensures opens { Opens (G.chosen g.now a (next_of (drop gone tokens.now))) frame.old (suspended_frames suspended.old) frame.new (suspended_frames suspended.new) result }
     ensures room { room_of suspended.new ≡ room_of suspended.old }
 {
     let Some(slot) = g.choice(a, lookahead(tokens, gone)) else {
@@ -73,12 +73,12 @@ fn close<G: Grammar, O: LengthPolicy>(
     frame: &mut Frame,
     gone: usize,
 ) -> Progress
-    requires sound { SoundCounts (meaning g.now) counts.now }
+    requires sound { SoundCounts (G.meaning g.now) counts.now }
     requires short { length tokens.now ≤ counts.now.bound }
-    requires room { (length tokens.now + 1) * (meaning g.now).nonterminals ≤ room_of suspended.old }
-    requires at { ParseAt (order policy.now) (meaning g.now) (chosen g.now) (levels g.now) tokens.now frame.old (suspended_frames suspended.old) gone }
-    requires done { frame.old.position ≡ length (frame_side (meaning g.now) frame.old) }
-    ensures answer { StepAnswer (order policy.now) (meaning g.now) (chosen g.now) (levels g.now) tokens.now (room_of suspended.old) frame.old (suspended_frames suspended.old) frame.new (suspended_frames suspended.new) result }
+    requires room { (length tokens.now + 1) * (G.meaning g.now).nonterminals ≤ room_of suspended.old }
+    requires at { ParseAt (order policy.now) (G.meaning g.now) (G.chosen g.now) (G.levels g.now) tokens.now frame.old (suspended_frames suspended.old) gone }
+    requires done { frame.old.position ≡ length (frame_side (G.meaning g.now) frame.old) }
+    ensures answer { StepAnswer (order policy.now) (G.meaning g.now) (G.chosen g.now) (G.levels g.now) tokens.now (room_of suspended.old) frame.old (suspended_frames suspended.old) frame.new (suspended_frames suspended.new) result }
     ensures room { room_of suspended.new ≡ room_of suspended.old }
 {
     let part = whole_part(g, policy, counts, frame);
@@ -108,11 +108,11 @@ fn step<G: Grammar, O: LengthPolicy>(
     frame: &mut Frame,
     gone: usize,
 ) -> Progress
-    requires sound { SoundCounts (meaning g.now) counts.now }
+    requires sound { SoundCounts (G.meaning g.now) counts.now }
     requires short { length tokens.now ≤ counts.now.bound }
-    requires room { (length tokens.now + 1) * (meaning g.now).nonterminals ≤ room_of suspended.old }
-    requires at { ParseAt (order policy.now) (meaning g.now) (chosen g.now) (levels g.now) tokens.now frame.old (suspended_frames suspended.old) gone }
-    ensures answer { StepAnswer (order policy.now) (meaning g.now) (chosen g.now) (levels g.now) tokens.now (room_of suspended.old) frame.old (suspended_frames suspended.old) frame.new (suspended_frames suspended.new) result }
+    requires room { (length tokens.now + 1) * (G.meaning g.now).nonterminals ≤ room_of suspended.old }
+    requires at { ParseAt (order policy.now) (G.meaning g.now) (G.chosen g.now) (G.levels g.now) tokens.now frame.old (suspended_frames suspended.old) gone }
+    ensures answer { StepAnswer (order policy.now) (G.meaning g.now) (G.chosen g.now) (G.levels g.now) tokens.now (room_of suspended.old) frame.old (suspended_frames suspended.old) frame.new (suspended_frames suspended.new) result }
     ensures room { room_of suspended.new ≡ room_of suspended.old }
 {
     let Some(symbol) = g.symbol(frame.slot, frame.position) else {
@@ -140,10 +140,10 @@ pub(crate) fn parse<G: Grammar, O: LengthPolicy>(
     tokens: &[u8],
     stack: &mut [Frame],
 ) -> Result<u64, usize>
-    requires sound { SoundCounts (meaning g.now) counts.now }
+    requires sound { SoundCounts (G.meaning g.now) counts.now }
     requires short { length tokens.now ≤ counts.now.bound }
-    requires room { (length tokens.now + 1) * (meaning g.now).nonterminals ≤ length stack.old }
-    ensures { ParseAnswer (order policy.now) (meaning g.now) (chosen g.now) tokens.now result }
+    requires room { (length tokens.now + 1) * (G.meaning g.now).nonterminals ≤ length stack.old }
+    ensures { ParseAnswer (order policy.now) (G.meaning g.now) (G.chosen g.now) tokens.now result }
 {
     let Some(slot) = g.choice(g.start(), lookahead(tokens, 0)) else {
         return Err(0);

@@ -60,13 +60,13 @@ fn add_part<G: Grammar, O: LengthPolicy>(
     position: u8,
     rest: Part,
 ) -> Part
-    requires sound { SoundCounts (meaning g.now) counts.now }
-    requires inside { frame.now.slot < (meaning g.now).slots }
-    requires there { position < length (frame_side (meaning g.now) frame.now) }
-    requires parts { AllParts (order policy.now) (meaning g.now) (drop position (frame_side (meaning g.now) frame.now)) (drop position frame.now.parts) }
-    requires short { length (joined (all_tokens (order policy.now) (meaning g.now) (drop position (frame_side (meaning g.now) frame.now)) (drop position frame.now.parts))) ≤ counts.now.bound }
-    requires rest { AddsUp (order policy.now) (meaning g.now) (drop (position + 1) (frame_side (meaning g.now) frame.now)) (drop (position + 1) frame.now.parts) rest }
-    ensures { AddsUp (order policy.now) (meaning g.now) (drop position (frame_side (meaning g.now) frame.now)) (drop position frame.now.parts) result }
+    requires sound { SoundCounts (G.meaning g.now) counts.now }
+    requires inside { frame.now.slot < (G.meaning g.now).slots }
+    requires there { position < length (frame_side (G.meaning g.now) frame.now) }
+    requires parts { AllParts (order policy.now) (G.meaning g.now) (drop position (frame_side (G.meaning g.now) frame.now)) (drop position frame.now.parts) }
+    requires short { length (joined (all_tokens (order policy.now) (G.meaning g.now) (drop position (frame_side (G.meaning g.now) frame.now)) (drop position frame.now.parts))) ≤ counts.now.bound }
+    requires rest { AddsUp (order policy.now) (G.meaning g.now) (drop (position + 1) (frame_side (G.meaning g.now) frame.now)) (drop (position + 1) frame.now.parts) rest }
+    ensures { AddsUp (order policy.now) (G.meaning g.now) (drop position (frame_side (G.meaning g.now) frame.now)) (drop position frame.now.parts) result }
 {
     let Some(symbol) = g.symbol(frame.slot, position) else {
         unreachable()
@@ -99,11 +99,11 @@ fn add_parts<G: Grammar, O: LengthPolicy>(
     counts: &Counts<'_>,
     frame: &Frame,
 ) -> Part
-    requires sound { SoundCounts (meaning g.now) counts.now }
-    requires inside { frame.now.slot < (meaning g.now).slots }
-    requires parts { AllParts (order policy.now) (meaning g.now) (frame_side (meaning g.now) frame.now) frame.now.parts }
-    requires short { length (joined (all_tokens (order policy.now) (meaning g.now) (frame_side (meaning g.now) frame.now) frame.now.parts)) ≤ counts.now.bound }
-    ensures { AddsUp (order policy.now) (meaning g.now) (frame_side (meaning g.now) frame.now) frame.now.parts result }
+    requires sound { SoundCounts (G.meaning g.now) counts.now }
+    requires inside { frame.now.slot < (G.meaning g.now).slots }
+    requires parts { AllParts (order policy.now) (G.meaning g.now) (frame_side (G.meaning g.now) frame.now) frame.now.parts }
+    requires short { length (joined (all_tokens (order policy.now) (G.meaning g.now) (frame_side (G.meaning g.now) frame.now) frame.now.parts)) ≤ counts.now.bound }
+    ensures { AddsUp (order policy.now) (G.meaning g.now) (frame_side (G.meaning g.now) frame.now) frame.now.parts result }
 {
     let mut sum = Part { length: 0, rank: 0 };
     for position in (0..g.length(frame.slot)).rev() {
@@ -114,11 +114,11 @@ fn add_parts<G: Grammar, O: LengthPolicy>(
 
 // How many ways at `m` the slots of `a` before `slot` have.
 fn lower_ways<G: Grammar>(g: &G, counts: &Counts<'_>, a: u8, slot: u8, m: usize) -> u64
-    requires sound { SoundCounts (meaning g.now) counts.now }
-    requires inside { slot < (meaning g.now).slots }
-    requires own { left_of ((meaning g.now).slot slot) ≡ Some a }
+    requires sound { SoundCounts (G.meaning g.now) counts.now }
+    requires inside { slot < (G.meaning g.now).slots }
+    requires own { left_of ((G.meaning g.now).slot slot) ≡ Some a }
     requires short { m ≤ counts.now.bound }
-    ensures { result ≡ ways_before (meaning g.now) a m slot }
+    ensures { result ≡ ways_before (G.meaning g.now) a m slot }
 {
     let mut ways = 0;
     for s in 0..slot {
@@ -129,12 +129,12 @@ fn lower_ways<G: Grammar>(g: &G, counts: &Counts<'_>, a: u8, slot: u8, m: usize)
 
 // The rank among all sentences of `a` of one that has the rank `rank` among those of `slot`: those of the lower slots come before.
 fn rank_in_all<G: Grammar>(g: &G, counts: &Counts<'_>, a: u8, slot: u8, m: usize, rank: u64) -> u64
-    requires sound { SoundCounts (meaning g.now) counts.now }
-    requires inside { slot < (meaning g.now).slots }
-    requires own { left_of ((meaning g.now).slot slot) ≡ Some a }
+    requires sound { SoundCounts (G.meaning g.now) counts.now }
+    requires inside { slot < (G.meaning g.now).slots }
+    requires own { left_of ((G.meaning g.now).slot slot) ≡ Some a }
     requires short { m ≤ counts.now.bound }
-    requires small { ways_before (meaning g.now) a m slot + rank < 2 ^ 63 }
-    ensures { result ≡ ways_before (meaning g.now) a m slot + rank }
+    requires small { ways_before (G.meaning g.now) a m slot + rank < 2 ^ 63 }
+    ensures { result ≡ ways_before (G.meaning g.now) a m slot + rank }
 {
     lower_ways(g, counts, a, slot, m) + rank
 }
@@ -146,11 +146,11 @@ pub(crate) fn whole_part<G: Grammar, O: LengthPolicy>(
     counts: &Counts<'_>,
     frame: &Frame,
 ) -> Part
-    requires sound { SoundCounts (meaning g.now) counts.now }
-    requires own { (A : ℕ) × (left_of ((meaning g.now).slot frame.now.slot) ≡ Some A) }
-    requires parts { AllParts (order policy.now) (meaning g.now) (frame_side (meaning g.now) frame.now) frame.now.parts }
-    requires short { length (joined (all_tokens (order policy.now) (meaning g.now) (frame_side (meaning g.now) frame.now) frame.now.parts)) ≤ counts.now.bound }
-    ensures { WholePart (order policy.now) (meaning g.now) frame.now result }
+    requires sound { SoundCounts (G.meaning g.now) counts.now }
+    requires own { (A : ℕ) × (left_of ((G.meaning g.now).slot frame.now.slot) ≡ Some A) }
+    requires parts { AllParts (order policy.now) (G.meaning g.now) (frame_side (G.meaning g.now) frame.now) frame.now.parts }
+    requires short { length (joined (all_tokens (order policy.now) (G.meaning g.now) (frame_side (G.meaning g.now) frame.now) frame.now.parts)) ≤ counts.now.bound }
+    ensures { WholePart (order policy.now) (G.meaning g.now) frame.now result }
 {
     let Some(a) = g.left(frame.slot) else {
         unreachable()

@@ -10,10 +10,10 @@ use grammar::Grammar;
 
 /// The parse from a nonterminal, as the start, goes through exactly for its sentences.
 pub fn goes_through_exactly_for_sentences<G: Grammar>(g: &G)
-    ensures { GoesThroughExactlyForSentences (meaning g.now) (chosen g.now) }
+    ensures { GoesThroughExactlyForSentences (G.meaning g.now) (G.chosen g.now) }
 {}
 
 /// Every parse goes through or stops, never both, and stops at one place, which is not past the tokens.
 pub fn ends_in_one_way<G: Grammar>(g: &G)
-    ensures { EndsInOneWay (meaning g.now) (chosen g.now) }
+    ensures { EndsInOneWay (G.meaning g.now) (G.chosen g.now) }
 {}

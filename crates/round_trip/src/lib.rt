@@ -10,10 +10,10 @@ use grammar::Grammar;
 
 /// Numbering what expanding wrote for a number, over the same table and with a stack that is long enough, answers that number.
 pub fn numbering_undoes_expanding<G: Grammar>(g: &G)
-    ensures { NumberingUndoesExpanding (meaning g.now) (chosen g.now) }
+    ensures { NumberingUndoesExpanding (G.meaning g.now) (G.chosen g.now) }
 {}
 
 /// Expanding the number that numbering answered for a plan, over the same table and with stack and output that are long enough, writes that plan.
 pub fn expanding_undoes_numbering<G: Grammar>(g: &G)
-    ensures { ExpandingUndoesNumbering (meaning g.now) (chosen g.now) }
+    ensures { ExpandingUndoesNumbering (G.meaning g.now) (G.chosen g.now) }
 {}

@@ -37,10 +37,10 @@ fn check_row<G: Grammar>(
     row: Row,
     at: usize,
 ) -> Option<usize>
-    requires ready { Ready (meaning g.now) layout.now cells.now }
-    requires stands { AtRow (meaning g.now) row at }
-    requires below { ObeyBelow (meaning g.now) layout.now.bound cells.now (place layout.now.bound at 0) }
-    ensures { MatchOption result (ObeyBelow (meaning g.now) layout.now.bound cells.now (place layout.now.bound (at + 1) 0)) (LowestBroken (meaning g.now) layout.now.bound cells.now) }
+    requires ready { Ready (G.meaning g.now) layout.now cells.now }
+    requires stands { AtRow (G.meaning g.now) row at }
+    requires below { ObeyBelow (G.meaning g.now) layout.now.bound cells.now (place layout.now.bound at 0) }
+    ensures { MatchOption result (ObeyBelow (G.meaning g.now) layout.now.bound cells.now (place layout.now.bound (at + 1) 0)) (LowestBroken (G.meaning g.now) layout.now.bound cells.now) }
 {
     let terms = terms_of(g, row);
     for m in 0..layout.bound + 1 {
@@ -54,10 +54,10 @@ fn check_row<G: Grammar>(
 
 // The lowest cell of a slot's rows that breaks its equation, where none below them does.
 fn check_slot<G: Grammar>(g: &G, layout: &Layout, cells: &[u64], s: u8) -> Option<usize>
-    requires ready { Ready (meaning g.now) layout.now cells.now }
-    requires inside { s < (meaning g.now).slots }
-    requires below { ObeyBelow (meaning g.now) layout.now.bound cells.now (place layout.now.bound (first_row (meaning g.now) s) 0) }
-    ensures { MatchOption result (ObeyBelow (meaning g.now) layout.now.bound cells.now (place layout.now.bound (first_row (meaning g.now) (s + 1)) 0)) (LowestBroken (meaning g.now) layout.now.bound cells.now) }
+    requires ready { Ready (G.meaning g.now) layout.now cells.now }
+    requires inside { s < (G.meaning g.now).slots }
+    requires below { ObeyBelow (G.meaning g.now) layout.now.bound cells.now (place layout.now.bound (first_row (G.meaning g.now) s) 0) }
+    ensures { MatchOption result (ObeyBelow (G.meaning g.now) layout.now.bound cells.now (place layout.now.bound (first_row (G.meaning g.now) (s + 1)) 0)) (LowestBroken (G.meaning g.now) layout.now.bound cells.now) }
 {
     let mut at = layout.offsets[s as usize] as usize;
     for position in 0..g.length(s) {
@@ -72,8 +72,8 @@ fn check_slot<G: Grammar>(g: &G, layout: &Layout, cells: &[u64], s: u8) -> Optio
 
 /// The lowest needed cell that breaks its equation, if any does.
 pub(crate) fn lowest_broken<G: Grammar>(g: &G, layout: &Layout, cells: &[u64]) -> Option<usize>
-    requires ready { Ready (meaning g.now) layout.now cells.now }
-    ensures { MatchOption result (AllObey (meaning g.now) layout.now.bound cells.now) (LowestBroken (meaning g.now) layout.now.bound cells.now) }
+    requires ready { Ready (G.meaning g.now) layout.now cells.now }
+    ensures { MatchOption result (AllObey (G.meaning g.now) layout.now.bound cells.now) (LowestBroken (G.meaning g.now) layout.now.bound cells.now) }
 {
     for a in 0..g.nonterminals() {
         if let Some(i) = check_row(g, layout, cells, Row::Nonterminal(a), a as usize) {

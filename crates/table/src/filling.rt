@@ -35,12 +35,12 @@ fn fill<G: Grammar>(
     at: usize,
     m: usize,
 ) -> bool
-    requires ready { Ready (meaning g.now) layout.now cells.old }
+    requires ready { Ready (G.meaning g.now) layout.now cells.old }
     requires short { m ≤ layout.now.bound }
-    requires stands { AtRow (meaning g.now) row at }
-    requires due { equation (meaning g.now) layout.now.bound cells.old row m ≡ count_of (meaning g.now) row m }
-    ensures keeps { Keeps (meaning g.now) layout.now.bound cells.old cells.new }
-    ensures done { UnlessOver result (meaning g.now) m (Correct (meaning g.now) layout.now.bound cells.new row m) }
+    requires stands { AtRow (G.meaning g.now) row at }
+    requires due { equation (G.meaning g.now) layout.now.bound cells.old row m ≡ count_of (G.meaning g.now) row m }
+    ensures keeps { Keeps (G.meaning g.now) layout.now.bound cells.old cells.new }
+    ensures done { UnlessOver result (G.meaning g.now) m (Correct (G.meaning g.now) layout.now.bound cells.new row m) }
 {
     let terms = terms_of(g, row);
     let Some(value) = sum_of(g, layout, cells, terms, at, m) else {
@@ -60,13 +60,13 @@ fn fill_suffixes<G: Grammar>(
     to: u8,
     m: usize,
 ) -> bool
-    requires ready { ReadyAt (meaning g.now) layout.now cells.old m }
-    requires inside { s < (meaning g.now).slots }
-    requires far { to ≤ length (right_of ((meaning g.now).slot s)) }
-    requires firsts { FirstsCorrect (meaning g.now) layout.now.bound cells.old (right_of ((meaning g.now).slot s)) to m }
-    requires last { (p : ℕ) → p + 1 ≡ to → NeedsNoRest (meaning g.now) (right_of ((meaning g.now).slot s)) p }
-    ensures keeps { Keeps (meaning g.now) layout.now.bound cells.old cells.new }
-    ensures done { UnlessOver result (meaning g.now) m ((q : ℕ) → from ≤ q → q < to → Correct (meaning g.now) layout.now.bound cells.new (Row.Suffix s q) m) }
+    requires ready { ReadyAt (G.meaning g.now) layout.now cells.old m }
+    requires inside { s < (G.meaning g.now).slots }
+    requires far { to ≤ length (right_of ((G.meaning g.now).slot s)) }
+    requires firsts { FirstsCorrect (G.meaning g.now) layout.now.bound cells.old (right_of ((G.meaning g.now).slot s)) to m }
+    requires last { (p : ℕ) → p + 1 ≡ to → NeedsNoRest (G.meaning g.now) (right_of ((G.meaning g.now).slot s)) p }
+    ensures keeps { Keeps (G.meaning g.now) layout.now.bound cells.old cells.new }
+    ensures done { UnlessOver result (G.meaning g.now) m ((q : ℕ) → from ≤ q → q < to → Correct (G.meaning g.now) layout.now.bound cells.new (Row.Suffix s q) m) }
 {
     let offset = layout.offsets[s as usize] as usize;
     for position in (from..to).rev() {
@@ -88,13 +88,13 @@ fn is_nullable(bound: usize, cells: &[u64], symbol: u8) -> bool
 
 // The position in slot `s` of the first symbol that is not nullable, or else the last position.
 fn prefix_end<G: Grammar>(g: &G, layout: &Layout, cells: &[u64], s: u8) -> u8
-    requires ready { Ready (meaning g.now) layout.now cells.now }
-    requires inside { s < (meaning g.now).slots }
-    requires some { 0 < length (right_of ((meaning g.now).slot s)) }
-    requires leaders { LeadingCorrect (meaning g.now) layout.now.bound cells.now (right_of ((meaning g.now).slot s)) 0 }
-    ensures far { result < length (right_of ((meaning g.now).slot s)) }
-    ensures before { Nullable (meaning g.now) (take result (right_of ((meaning g.now).slot s))) }
-    ensures last { NeedsNoRest (meaning g.now) (right_of ((meaning g.now).slot s)) result }
+    requires ready { Ready (G.meaning g.now) layout.now cells.now }
+    requires inside { s < (G.meaning g.now).slots }
+    requires some { 0 < length (right_of ((G.meaning g.now).slot s)) }
+    requires leaders { LeadingCorrect (G.meaning g.now) layout.now.bound cells.now (right_of ((G.meaning g.now).slot s)) 0 }
+    ensures far { result < length (right_of ((G.meaning g.now).slot s)) }
+    ensures before { Nullable (G.meaning g.now) (take result (right_of ((G.meaning g.now).slot s))) }
+    ensures last { NeedsNoRest (G.meaning g.now) (right_of ((G.meaning g.now).slot s)) result }
 {
     let end = g.length(s) - 1;
     for p in 0..end {
@@ -117,11 +117,11 @@ fn fill_prefix<G: Grammar>(
     s: u8,
     m: usize,
 ) -> bool
-    requires ready { ReadyAt (meaning g.now) layout.now cells.old m }
-    requires inside { s < (meaning g.now).slots }
-    requires corners { CornersCorrect (meaning g.now) layout.now.bound cells.old a m }
-    ensures keeps { Keeps (meaning g.now) layout.now.bound cells.old cells.new }
-    ensures done { UnlessOver result (meaning g.now) m (PrefixCorrectOf (meaning g.now) layout.now.bound cells.new a m s) }
+    requires ready { ReadyAt (G.meaning g.now) layout.now cells.old m }
+    requires inside { s < (G.meaning g.now).slots }
+    requires corners { CornersCorrect (G.meaning g.now) layout.now.bound cells.old a m }
+    ensures keeps { Keeps (G.meaning g.now) layout.now.bound cells.old cells.new }
+    ensures done { UnlessOver result (G.meaning g.now) m (PrefixCorrectOf (G.meaning g.now) layout.now.bound cells.new a m s) }
 {
     if let Some(b) = g.left(s) {
         if b == a && g.length(s) > 0 {
@@ -134,11 +134,11 @@ fn fill_prefix<G: Grammar>(
 
 // Writes the cell of the nonterminal `a` for the length `m`, with the suffixes that it needs; false where a count passes the limit.
 fn fill_nonterminal<G: Grammar>(g: &G, layout: &Layout, cells: &mut [u64], a: u8, m: usize) -> bool
-    requires ready { ReadyAt (meaning g.now) layout.now cells.old m }
-    requires inside { a < (meaning g.now).nonterminals }
-    requires corners { CornersCorrect (meaning g.now) layout.now.bound cells.old a m }
-    ensures keeps { Keeps (meaning g.now) layout.now.bound cells.old cells.new }
-    ensures done { UnlessOver result (meaning g.now) m (Done (meaning g.now) layout.now.bound cells.new m a) }
+    requires ready { ReadyAt (G.meaning g.now) layout.now cells.old m }
+    requires inside { a < (G.meaning g.now).nonterminals }
+    requires corners { CornersCorrect (G.meaning g.now) layout.now.bound cells.old a m }
+    ensures keeps { Keeps (G.meaning g.now) layout.now.bound cells.old cells.new }
+    ensures done { UnlessOver result (G.meaning g.now) m (Done (G.meaning g.now) layout.now.bound cells.new m a) }
 {
     for s in 0..g.slots() {
         if !fill_prefix(g, layout, cells, a, s, m) {
@@ -150,9 +150,9 @@ fn fill_nonterminal<G: Grammar>(g: &G, layout: &Layout, cells: &mut [u64], a: u8
 
 // Writes the cells of all nonterminals for the length `m`, by ascending level, with the suffixes that they need; false where a count passes the limit.
 fn fill_nonterminals<G: Grammar>(g: &G, layout: &Layout, cells: &mut [u64], m: usize) -> bool
-    requires ready { ReadyAt (meaning g.now) layout.now cells.old m }
-    ensures keeps { Keeps (meaning g.now) layout.now.bound cells.old cells.new }
-    ensures done { UnlessOver result (meaning g.now) m (AllDone (meaning g.now) layout.now.bound cells.new m) }
+    requires ready { ReadyAt (G.meaning g.now) layout.now cells.old m }
+    ensures keeps { Keeps (G.meaning g.now) layout.now.bound cells.old cells.new }
+    ensures done { UnlessOver result (G.meaning g.now) m (AllDone (G.meaning g.now) layout.now.bound cells.new m) }
 {
     for level in 0..16u8 {
         for a in 0..g.nonterminals() {
@@ -168,11 +168,11 @@ fn fill_nonterminals<G: Grammar>(g: &G, layout: &Layout, cells: &mut [u64], m: u
 
 // Writes the suffixes of slot `s` for the length `m` that its left-hand side did not need; false where a count passes the limit.
 fn fill_rest<G: Grammar>(g: &G, layout: &Layout, cells: &mut [u64], s: u8, m: usize) -> bool
-    requires ready { ReadyAt (meaning g.now) layout.now cells.old m }
-    requires inside { s < (meaning g.now).slots }
-    requires prefixes { AllDone (meaning g.now) layout.now.bound cells.old m }
-    ensures keeps { Keeps (meaning g.now) layout.now.bound cells.old cells.new }
-    ensures done { UnlessOver result (meaning g.now) m ((q : ℕ) → q < length (right_of ((meaning g.now).slot s)) → Correct (meaning g.now) layout.now.bound cells.new (Row.Suffix s q) m) }
+    requires ready { ReadyAt (G.meaning g.now) layout.now cells.old m }
+    requires inside { s < (G.meaning g.now).slots }
+    requires prefixes { AllDone (G.meaning g.now) layout.now.bound cells.old m }
+    ensures keeps { Keeps (G.meaning g.now) layout.now.bound cells.old cells.new }
+    ensures done { UnlessOver result (G.meaning g.now) m ((q : ℕ) → q < length (right_of ((G.meaning g.now).slot s)) → Correct (G.meaning g.now) layout.now.bound cells.new (Row.Suffix s q) m) }
 {
     let n = g.length(s);
     if n == 0 {
@@ -184,10 +184,10 @@ fn fill_rest<G: Grammar>(g: &G, layout: &Layout, cells: &mut [u64], s: u8, m: us
 
 // Writes the suffixes of all slots for the length `m` that the nonterminals did not need; false where a count passes the limit.
 fn fill_rests<G: Grammar>(g: &G, layout: &Layout, cells: &mut [u64], m: usize) -> bool
-    requires ready { ReadyAt (meaning g.now) layout.now cells.old m }
-    requires prefixes { AllDone (meaning g.now) layout.now.bound cells.old m }
-    ensures keeps { Keeps (meaning g.now) layout.now.bound cells.old cells.new }
-    ensures done { UnlessOver result (meaning g.now) m ((s q : ℕ) → RowOf (meaning g.now) (Row.Suffix s q) → Correct (meaning g.now) layout.now.bound cells.new (Row.Suffix s q) m) }
+    requires ready { ReadyAt (G.meaning g.now) layout.now cells.old m }
+    requires prefixes { AllDone (G.meaning g.now) layout.now.bound cells.old m }
+    ensures keeps { Keeps (G.meaning g.now) layout.now.bound cells.old cells.new }
+    ensures done { UnlessOver result (G.meaning g.now) m ((s q : ℕ) → RowOf (G.meaning g.now) (Row.Suffix s q) → Correct (G.meaning g.now) layout.now.bound cells.new (Row.Suffix s q) m) }
 {
     for s in 0..g.slots() {
         if !fill_rest(g, layout, cells, s, m) {
@@ -199,9 +199,9 @@ fn fill_rests<G: Grammar>(g: &G, layout: &Layout, cells: &mut [u64], m: usize) -
 
 /// Writes all cells for the length `m`; false where a count passes the limit.
 pub(crate) fn fill_length<G: Grammar>(g: &G, layout: &Layout, cells: &mut [u64], m: usize) -> bool
-    requires ready { ReadyAt (meaning g.now) layout.now cells.old m }
-    ensures keeps { Keeps (meaning g.now) layout.now.bound cells.old cells.new }
-    ensures done { UnlessOver result (meaning g.now) m (CorrectBelow (meaning g.now) layout.now.bound cells.new (m + 1)) }
+    requires ready { ReadyAt (G.meaning g.now) layout.now cells.old m }
+    ensures keeps { Keeps (G.meaning g.now) layout.now.bound cells.old cells.new }
+    ensures done { UnlessOver result (G.meaning g.now) m (CorrectBelow (G.meaning g.now) layout.now.bound cells.new (m + 1)) }
 {
     fill_nonterminals(g, layout, cells, m) && fill_rests(g, layout, cells, m)
 }

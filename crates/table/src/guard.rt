@@ -48,8 +48,8 @@ pub(crate) fn count_cells<G: Grammar>(
     layout: &Layout,
     cells: &mut [u64],
 ) -> Result<(), usize>
-    requires ready { Ready (meaning g.now) layout.now cells.old }
-    ensures { MatchResult result (λ _. Filled (meaning g.now) layout.now.bound cells.old cells.new) (Stopped (meaning g.now) layout.now.bound cells.old cells.new) }
+    requires ready { Ready (G.meaning g.now) layout.now cells.old }
+    ensures { MatchResult result (λ _. Filled (G.meaning g.now) layout.now.bound cells.old cells.new) (Stopped (G.meaning g.now) layout.now.bound cells.old cells.new) }
 {
     let mut counting = Counting {
         cells,

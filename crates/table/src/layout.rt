@@ -15,8 +15,8 @@ pub(crate) struct Layout {
 
 /// The layout of the table of `g` for `bound`.
 pub(crate) fn lay_out<G: Grammar>(g: &G, bound: usize) -> Layout
-    ensures laid { Laid (meaning g.now) bound result }
-    ensures past { NoOffsetsPast (meaning g.now) result }
+    ensures laid { Laid (G.meaning g.now) bound result }
+    ensures past { NoOffsetsPast (G.meaning g.now) result }
 {
     let mut offsets = [0; 64];
     let mut rows = g.nonterminals() as u16;

@@ -54,8 +54,8 @@ pub struct Lent {
 
 // The layout of the table of `g`, if its bound is at most 48 and it has cells enough.
 fn room<G: Grammar>(g: &G, bound: usize, cells: usize) -> Result<Layout, Fault>
-    ensures room { MatchResult result (HasRoom (meaning g.now) bound cells) (NoRoom (meaning g.now) bound cells) }
-    ensures past { IfOk result (NoOffsetsPast (meaning g.now)) }
+    ensures room { MatchResult result (HasRoom (G.meaning g.now) bound cells) (NoRoom (G.meaning g.now) bound cells) }
+    ensures past { IfOk result (NoOffsetsPast (G.meaning g.now)) }
 {
     if bound > GREATEST_BOUND {
         return Err(Fault::TooLong(bound as u64));
@@ -71,7 +71,7 @@ fn room<G: Grammar>(g: &G, bound: usize, cells: usize) -> Result<Layout, Fault>
 ///
 /// Fault 9 if the bound is above 48, place the bound; 10 if there are too few cells, place 1.
 pub fn needed_cells<G: Grammar>(g: &G, table: &Table<'_>) -> Result<usize, Fault>
-    ensures { NeededAnswer (meaning g.now) table.now.bound table.now.cells.now result }
+    ensures { NeededAnswer (G.meaning g.now) table.now.bound table.now.cells.now result }
 {
     let layout = room(g, table.bound, table.cells.len())?;
     Ok(layout.rows * (table.bound + 1))
@@ -79,7 +79,7 @@ pub fn needed_cells<G: Grammar>(g: &G, table: &Table<'_>) -> Result<usize, Fault
 
 // Counts the table in `cells` for `bound`.
 fn count_table<G: Grammar>(g: &G, bound: usize, cells: &mut [u64]) -> Result<(), Fault>
-    ensures { CountAnswer (meaning g.now) bound cells.old cells.new result }
+    ensures { CountAnswer (G.meaning g.now) bound cells.old cells.new result }
 {
     let layout = room(g, bound, cells.len())?;
     if let Err(m) = count_cells(g, &layout, cells) {
@@ -93,7 +93,7 @@ fn count_table<G: Grammar>(g: &G, bound: usize, cells: &mut [u64]) -> Result<(),
 /// Fault 9 if the bound is above 48, place the bound; 10 if there are too few cells, place 1; 11 if a count passes 2^63 - 1, place the smallest such length.
 /// After 11 the needed cells are 0; after 9 and 10 all cells are unchanged. The cells past the needed ones are always unchanged.
 pub fn count<G: Grammar>(g: &G, table: Table<'_>) -> Result<(), Fault>
-    ensures { CountAnswer (meaning g.now) table.entry.bound table.entry.cells.now table.exit.0.now result }
+    ensures { CountAnswer (G.meaning g.now) table.entry.bound table.entry.cells.now table.exit.0.now result }
 {
     let Table { cells, bound } = table;
     count_table(g, bound, cells)
@@ -117,7 +117,7 @@ fn sufficient<G: Grammar>(
     length: usize,
     lent: Lent,
 ) -> Result<Layout, Fault>
-    ensures { MatchResult result (SufficientLayout (meaning g.now) bound cells.now length lent) (Insufficient (meaning g.now) bound cells.now length lent) }
+    ensures { MatchResult result (SufficientLayout (G.meaning g.now) bound cells.now length lent) (Insufficient (G.meaning g.now) bound cells.now length lent) }
 {
     if bound <= GREATEST_BOUND && length > bound {
         return Err(Fault::TooLong(length as u64));
@@ -140,7 +140,7 @@ fn judge<'a, G: Grammar>(
     length: usize,
     lent: Lent,
 ) -> Result<Counts<'a>, Fault>
-    ensures { CheckedAnswer (meaning g.now) bound cells.now length lent result }
+    ensures { CheckedAnswer (G.meaning g.now) bound cells.now length lent result }
 {
     let layout = sufficient(g, bound, cells, length, lent)?;
     if let Some(i) = lowest_broken(g, &layout, cells) {
@@ -165,14 +165,14 @@ pub fn checked<'a, G: Grammar>(
     length: usize,
     lent: Lent,
 ) -> Result<Counts<'a>, Fault>
-    ensures { CheckedAnswer (meaning g.now) table.now.bound table.now.cells.now length lent result }
+    ensures { CheckedAnswer (G.meaning g.now) table.now.bound table.now.cells.now length lent result }
 {
     judge(g, table.bound, table.cells, length, lent)
 }
 
 // Whether the table in `cells` for `bound` is sound.
 fn check_table<G: Grammar>(g: &G, bound: usize, cells: &[u64]) -> Result<(), Fault>
-    ensures { CheckAnswer (meaning g.now) bound cells.now result }
+    ensures { CheckAnswer (G.meaning g.now) bound cells.now result }
 {
     let layout = room(g, bound, cells.len())?;
     match lowest_broken(g, &layout, cells) {
@@ -185,7 +185,7 @@ fn check_table<G: Grammar>(g: &G, bound: usize, cells: &[u64]) -> Result<(), Fau
 ///
 /// Fault 9 if the bound is above 48, place the bound; 10 if there are too few cells, place 1; 12 if a needed cell breaks its equation, place the lowest such cell.
 pub fn check<G: Grammar>(g: &G, table: &Table<'_>) -> Result<(), Fault>
-    ensures { CheckAnswer (meaning g.now) table.now.bound table.now.cells.now result }
+    ensures { CheckAnswer (G.meaning g.now) table.now.bound table.now.cells.now result }
 {
     check_table(g, table.bound, table.cells)
 }

@@ -61,7 +61,7 @@ impl Counts<'_> {
 
     /// How many ways the right-hand side of `slot` has at `m`, if `slot` is one of a's, else 0.
     pub fn slot_ways<G: Grammar>(&self, g: &G, a: u8, slot: u8, m: usize) -> u64
-        ensures { result ≡ if_left (left_of ((meaning g.now).slot slot)) a (side_ways (right_of ((meaning g.now).slot slot)) (counted_row self.now (Row.Suffix slot 0)) m) }
+        ensures { result ≡ if_left (left_of ((G.meaning g.now).slot slot)) a (side_ways (right_of ((G.meaning g.now).slot slot)) (counted_row self.now (Row.Suffix slot 0)) m) }
     {
         if g.left(slot) != Some(a) {
             return 0;

@@ -102,8 +102,8 @@ pub(crate) enum Terms {
 
 /// What is read of `row`.
 pub(crate) fn terms_of<G: Grammar>(g: &G, row: Row) -> Terms
-    requires { RowOf (meaning g.now) row }
-    ensures { ReadOf (meaning g.now) row result }
+    requires { RowOf (G.meaning g.now) row }
+    ensures { ReadOf (G.meaning g.now) row result }
 {
     match row {
         Row::Nonterminal(a) => Terms::Slots(a),
@@ -119,10 +119,10 @@ pub(crate) fn terms_of<G: Grammar>(g: &G, row: Row) -> Terms
 
 // What the cells say of the right-hand side of slot `s` at `m`, if it is one of a's, else 0.
 fn slot_count<G: Grammar>(g: &G, layout: &Layout, cells: &[u64], a: u8, s: u8, m: usize) -> u64
-    requires ready { Ready (meaning g.now) layout.now cells.now }
+    requires ready { Ready (G.meaning g.now) layout.now cells.now }
     requires short { m ≤ layout.now.bound }
-    requires inside { s < (meaning g.now).slots }
-    ensures { result ≡ if_left (left_of ((meaning g.now).slot s)) a (suffix_cell layout.now.bound cells.now (right_of ((meaning g.now).slot s)) (first_row (meaning g.now) s) m) }
+    requires inside { s < (G.meaning g.now).slots }
+    ensures { result ≡ if_left (left_of ((G.meaning g.now).slot s)) a (suffix_cell layout.now.bound cells.now (right_of ((G.meaning g.now).slot s)) (first_row (G.meaning g.now) s) m) }
 {
     if g.left(s) != Some(a) {
         0
@@ -135,9 +135,9 @@ fn slot_count<G: Grammar>(g: &G, layout: &Layout, cells: &[u64], a: u8, s: u8, m
 
 // The sum at `m` over the slots of `a`.
 fn slots_sum<G: Grammar>(g: &G, layout: &Layout, cells: &[u64], a: u8, m: usize) -> Option<u64>
-    requires ready { Ready (meaning g.now) layout.now cells.now }
+    requires ready { Ready (G.meaning g.now) layout.now cells.now }
     requires short { m ≤ layout.now.bound }
-    ensures { Within (equation (meaning g.now) layout.now.bound cells.now (Row.Nonterminal a) m) result }
+    ensures { Within (equation (G.meaning g.now) layout.now.bound cells.now (Row.Nonterminal a) m) result }
 {
     let mut sum = 0;
     for s in 0..g.slots() {
@@ -155,10 +155,10 @@ pub(crate) fn sum_of<G: Grammar>(
     at: usize,
     m: usize,
 ) -> Option<u64>
-    requires ready { Ready (meaning g.now) layout.now cells.now }
+    requires ready { Ready (G.meaning g.now) layout.now cells.now }
     requires short { m ≤ layout.now.bound }
-    requires row { TermsRow (meaning g.now) terms at }
-    ensures { Within (read_sum (meaning g.now) layout.now.bound cells.now terms at m) result }
+    requires row { TermsRow (G.meaning g.now) terms at }
+    ensures { Within (read_sum (G.meaning g.now) layout.now.bound cells.now terms at m) result }
 {
     match terms {
         Terms::Slots(a) => slots_sum(g, layout, cells, a, m),

@@ -5,6 +5,6 @@ use Rattle.stack.proofs.Stack.top.Goals as goal
 pub returns-in-0 : goal.returns-in-0
 returns-in-0 g c = first_none c.args.self.now.entries.now c.args.self.now.depth c.in-0.is
 
-pub returns-in-default : goal.returns-in-default
-returns-in-default g c =
+pub returns-in_default : goal.returns-in_default
+returns-in_default g c =
     first_is c.args.self.now.entries.now c.args.self.now.depth c.entry.result (omega arith) (omega arith) c.entry.ensures

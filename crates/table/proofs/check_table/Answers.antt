@@ -7,17 +7,17 @@ use Rattle.table.proofs.Solution.{obey_sound}
 use Rattle.table.proofs.Calls.{check_answer}
 use Rattle.table.proofs.check_table.Goals as goal
 
-pub returns-in-err-layout : goal.returns-in-err-layout
-returns-in-err-layout g c =
-    let p = err_from_is_err_and c.from-residual.result c.from-residual.ensures.1 in
+pub returns-in_err-layout : goal.returns-in_err-layout
+returns-in_err-layout g c =
+    let p = err_from_is_err_and c.from_residual.result c.from_residual.ensures.1 in
     let f = g.met.G.Grammar.implements c.args.g.now in
-    check_answer (ll1_of f) c.from-residual.result (rw (p.1, p.2) (no_room c.in-err-layout.ensures))
+    check_answer (ll1_of f) c.from_residual.result (rw (p.1, p.2) (no_room c.in_err-layout.ensures.room))
 
 pub returns-in-None : goal.returns-in-None
 returns-in-None g c =
     let G = g.G.Grammar.meaning c.args.g.now in
     let f = g.met.G.Grammar.implements c.args.g.now in
-    let r = c.in-ok-layout.ensures in
+    let r = c.in_ok-layout.ensures.room in
     let d = subst (λ (L : ℕ). AllObey G L c.args.cells.now) r.laid.bound c.in-None.ensures in
     check_answer (ll1_of f) (Ok _) (record { small = r.small; enough = r.enough }, obey_sound (ll1_of f) d)
 
@@ -25,6 +25,6 @@ pub returns-in-Some : goal.returns-in-Some
 returns-in-Some g c =
     let G = g.G.Grammar.meaning c.args.g.now in
     let f = g.met.G.Grammar.implements c.args.g.now in
-    let r = c.in-ok-layout.ensures in
+    let r = c.in_ok-layout.ensures.room in
     let d = subst (λ (L : ℕ). LowestBroken G L c.args.cells.now c.in-Some.i) r.laid.bound c.in-Some.ensures in
     check_answer (ll1_of f) (Err _) (broken c.in-Some.i (record { small = r.small; enough = r.enough }) d)

@@ -7,17 +7,17 @@ use Rattle.table.proofs.Solution.{obey_sound}
 use Rattle.table.proofs.Calls.{checked_answer}
 use Rattle.table.proofs.judge.Goals as goal
 
-pub returns-in-err-layout : goal.returns-in-err-layout
-returns-in-err-layout g c =
-    let p = err_from_is_err_and c.from-residual.result c.from-residual.ensures.1 in
+pub returns-in_err-layout : goal.returns-in_err-layout
+returns-in_err-layout g c =
+    let p = err_from_is_err_and c.from_residual.result c.from_residual.ensures.1 in
     let f = g.met.G.Grammar.implements c.args.g.now in
-    checked_answer (ll1_of f) c.from-residual.result (rw (p.1, p.2) (insufficient c.in-err-layout.ensures))
+    checked_answer (ll1_of f) c.from_residual.result (rw (p.1, p.2) (insufficient c.in_err-layout.ensures))
 
 pub returns-in-Some : goal.returns-in-Some
 returns-in-Some g c =
     let G = g.G.Grammar.meaning c.args.g.now in
     let f = g.met.G.Grammar.implements c.args.g.now in
-    let r = c.in-ok-layout.ensures in
+    let r = c.in_ok-layout.ensures in
     let d = subst (λ (L : ℕ). LowestBroken G L c.args.cells.now c.in-Some.i) r.laid.bound c.in-Some.ensures in
     checked_answer (ll1_of f) (Err _) (broken c.in-Some.i r.sufficient d)
 
@@ -25,6 +25,6 @@ pub returns : goal.returns
 returns g c =
     let G = g.G.Grammar.meaning c.args.g.now in
     let f = g.met.G.Grammar.implements c.args.g.now in
-    let r = c.in-ok-layout.ensures in
-    let d = subst (λ (L : ℕ). AllObey G L c.args.cells.now) r.laid.bound c.in-default.ensures in
-    checked_answer (ll1_of f) (Ok _) (record { sufficient = r.sufficient; sound = obey_sound (ll1_of f) d }, record { read = refl; bound = refl; offsets = r.laid.offsets; no_offsets = r.laid.no_offsets })
+    let r = c.in_ok-layout.ensures in
+    let d = subst (λ (L : ℕ). AllObey G L c.args.cells.now) r.laid.bound c.in_default.ensures in
+    checked_answer (ll1_of f) (Ok _) (record { sufficient = r.sufficient; sound = obey_sound (ll1_of f) d }, record { read = refl; bound = refl; offsets = r.laid.offsets; no_offsets = r.past })

@@ -7,41 +7,41 @@ use Rattle.expanding.proofs.dividing.divide.Goals as goal
 pub loop-i-init : goal.loop-i-init
 loop-i-init g c = omega (arith, listed_none (cell_of c.args.first.now) (cell_of c.args.rest.now) c.args.m)
 
-pub overflow-sub-rests : goal.overflow-sub-rests
-overflow-sub-rests g c =
-    length_short (g.met.O.LengthPolicy.lists c.args.policy.now) c.args.m c.loop-i.i c.length-at-length.result (omega arith) c.length-at-length.ensures
+pub overflow_sub-rests : goal.overflow_sub-rests
+overflow_sub-rests g c =
+    length_short (g.met.O.LengthPolicy.lists c.args.policy.now) c.args.m c.loop-i.i c.length_at-length.result (omega arith) c.length_at-length.ensures
 
 pub offset-bounds-first-length : goal.offset-bounds-first-length
 offset-bounds-first-length g c =
-    let l = length_short (g.met.O.LengthPolicy.lists c.args.policy.now) c.args.m c.loop-i.i c.length-at-length.result (omega arith) c.length-at-length.ensures in
+    let l = length_short (g.met.O.LengthPolicy.lists c.args.policy.now) c.args.m c.loop-i.i c.length_at-length.result (omega arith) c.length_at-length.ensures in
     omega (arith, c.requires.small)
 
 pub bounds-first-length : goal.bounds-first-length
 bounds-first-length g c =
-    let l = length_short (g.met.O.LengthPolicy.lists c.args.policy.now) c.args.m c.loop-i.i c.length-at-length.result (omega arith) c.length-at-length.ensures in
+    let l = length_short (g.met.O.LengthPolicy.lists c.args.policy.now) c.args.m c.loop-i.i c.length_at-length.result (omega arith) c.length_at-length.ensures in
     omega (arith, c.requires.first)
 
-pub overflow-mul-first : goal.overflow-mul-first
-overflow-mul-first g c =
+pub overflow_mul-first : goal.overflow_mul-first
+overflow_mul-first g c =
     let l = product_in_sum (g.met.O.LengthPolicy.lists c.args.policy.now) (cell_of c.args.first.now) (cell_of c.args.rest.now) c.args.m c.loop-i.i
-    c.length-at-length.result (omega arith) c.length-at-length.ensures in
+    c.length_at-length.result (omega arith) c.length_at-length.ensures in
     omega (arith, c.requires.within)
 
-pub quotient-part-requires : goal.quotient-part-requires
-quotient-part-requires g c =
-    let l = length_short (g.met.O.LengthPolicy.lists c.args.policy.now) c.args.m c.loop-i.i c.length-at-length.result (omega arith) c.length-at-length.ensures in
-    (omega (arith, c.requires.small), right_factor_positive c.loop-i.left (cell_of c.args.first.now c.length-at-length.result) _ c.in-None.ensures)
+pub quotient_part-requires : goal.quotient_part-requires
+quotient_part-requires g c =
+    let l = length_short (g.met.O.LengthPolicy.lists c.args.policy.now) c.args.m c.loop-i.i c.length_at-length.result (omega arith) c.length_at-length.ensures in
+    (omega (arith, c.requires.small), right_factor_positive c.loop-i.left (cell_of c.args.first.now c.length_at-length.result) _ c.in-None.ensures)
 
 pub returns-in-None : goal.returns-in-None
 returns-in-None g c =
     divided (g.met.O.LengthPolicy.lists c.args.policy.now) (cell_of c.args.first.now) (cell_of c.args.rest.now) c.args.m c.loop-i.i
-    c.length-at-length.result (omega arith) c.length-at-length.ensures c.args.rank c.loop-i.left c.quotient-part.result
-    c.loop-i.invariant c.in-None.ensures c.quotient-part.ensures.length c.quotient-part.ensures.rank c.quotient-part.ensures.rest
+    c.length_at-length.result (omega arith) c.length_at-length.ensures c.args.rank c.loop-i.left c.quotient_part.result
+    c.loop-i.invariant c.in-None.ensures c.quotient_part.ensures.length c.quotient_part.ensures.rank c.quotient_part.ensures.rest
 
 pub loop-i-preserved : goal.loop-i-preserved
 loop-i-preserved g c =
     behind_product (g.met.O.LengthPolicy.lists c.args.policy.now) (cell_of c.args.first.now) (cell_of c.args.rest.now) c.args.m c.loop-i.i
-    c.length-at-length.result (omega arith) c.length-at-length.ensures c.args.rank c.loop-i.left c.in-Some.behind
+    c.length_at-length.result (omega arith) c.length_at-length.ensures c.args.rank c.loop-i.left c.in-Some.behind
     c.loop-i.invariant c.in-Some.ensures
 
 pub unreachable-requires : goal.unreachable-requires

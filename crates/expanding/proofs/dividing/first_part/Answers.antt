@@ -6,8 +6,8 @@ use Rattle.walk.specs.Depth.{side_of}
 use Rattle.expanding.proofs.Parts.{before_inside, last_parted, split_parted, rows_for}
 use Rattle.expanding.proofs.dividing.first_part.Goals as goal
 
-pub overflow-add-f : goal.overflow-add-f
-overflow-add-f g c =
+pub overflow_add-f : goal.overflow_add-f
+overflow_add-f g c =
     let l = side_six (ll1_of (g.met.G.Grammar.implements c.args.g.now)).limits c.args.f.slot in
     omega (arith, c.requires.frame.inside)
 
@@ -17,8 +17,8 @@ returns-then-f-length g c =
     let lists = g.met.O.LengthPolicy.lists c.args.policy.now in
     last_parted ll lists c.args.f c.args.a c.requires.before c.requires.frame (c.if-f-length.true ∙ c.length.ensures)
 
-pub overflow-add-f-2 : goal.overflow-add-f-2
-overflow-add-f-2 g c =
+pub overflow_add-f-2 : goal.overflow_add-f-2
+overflow_add-f-2 g c =
     let l = side_six (ll1_of (g.met.G.Grammar.implements c.args.g.now)).limits c.args.f.slot in
     omega (arith, c.requires.frame.inside)
 

@@ -13,12 +13,12 @@ loop-slot-init g c =
 pub returns-in-None : goal.returns-in-None
 returns-in-None g c =
     opened (ll1_of (g.met.G.Grammar.implements c.args.g.now)) c.requires.sound c.args.a c.args.m c.loop-slot.slot c.loop-slot.left c.args.rank
-    c.slot-ways.result c.requires.short (omega arith) c.loop-slot.invariant c.slot-ways.ensures c.in-None.ensures
+    c.slot_ways.result c.requires.short (omega arith) c.loop-slot.invariant c.slot_ways.ensures c.in-None.ensures
 
 pub loop-slot-preserved : goal.loop-slot-preserved
 loop-slot-preserved g c =
     behind_slot (ll1_of (g.met.G.Grammar.implements c.args.g.now)) c.requires.sound c.args.a c.args.m c.loop-slot.slot c.loop-slot.left c.args.rank
-    c.slot-ways.result c.requires.short (omega arith) c.loop-slot.invariant c.slot-ways.ensures c.in-Some.behind c.in-Some.ensures
+    c.slot_ways.result c.requires.short (omega arith) c.loop-slot.invariant c.slot_ways.ensures c.in-Some.behind c.in-Some.ensures
 
 pub unreachable-requires : goal.unreachable-requires
 unreachable-requires g c =

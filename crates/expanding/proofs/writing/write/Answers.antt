@@ -46,8 +46,8 @@ bounds-output-written g c =
     let lists = g.met.O.LengthPolicy.lists c.args.policy.now in
     token_room ll lists c.loop-stack.frame (held c.loop-stack.stack.entries.now c.loop-stack.stack.depth) c.loop-stack.output c.loop-stack.written c.loop-stack.invariant.0 c.in-Some.symbol c.in-Some.ensures c.if-symbol-lt128.true c.requires.output
 
-pub past-token-frame-requires : goal.past-token-frame-requires
-past-token-frame-requires g c =
+pub past_token-frame-requires : goal.past_token-frame-requires
+past_token-frame-requires g c =
     let ll = ll1_of (g.met.G.Grammar.implements c.args.g.now) in
     let lists = g.met.O.LengthPolicy.lists c.args.policy.now in
     let six = side_six ll.limits c.loop-stack.frame.slot in
@@ -57,16 +57,16 @@ pub loop-stack-smaller-then-symbol-lt128 : goal.loop-stack-smaller-then-symbol-l
 loop-stack-smaller-then-symbol-lt128 g c =
     let ll = ll1_of (g.met.G.Grammar.implements c.args.g.now) in
     let lists = g.met.O.LengthPolicy.lists c.args.policy.now in
-    rw c.past-token-frame.ensures (token_less ll lists c.loop-stack.frame (held c.loop-stack.stack.entries.now c.loop-stack.stack.depth) c.loop-stack.output c.loop-stack.written c.loop-stack.invariant.0 c.in-Some.symbol c.in-Some.ensures c.if-symbol-lt128.true)
+    rw c.past_token-frame.ensures (token_less ll lists c.loop-stack.frame (held c.loop-stack.stack.entries.now c.loop-stack.stack.depth) c.loop-stack.output c.loop-stack.written c.loop-stack.invariant.0 c.in-Some.symbol c.in-Some.ensures c.if-symbol-lt128.true)
 
 pub loop-stack-preserved-then-symbol-lt128 : goal.loop-stack-preserved-then-symbol-lt128
 loop-stack-preserved-then-symbol-lt128 g c =
     let ll = ll1_of (g.met.G.Grammar.implements c.args.g.now) in
     let lists = g.met.O.LengthPolicy.lists c.args.policy.now in
-    (rw c.past-token-frame.ensures (token_step ll lists c.loop-stack.frame (held c.loop-stack.stack.entries.now c.loop-stack.stack.depth) c.loop-stack.output c.loop-stack.written c.loop-stack.invariant.0 c.in-Some.symbol c.in-Some.ensures c.if-symbol-lt128.true c.requires.output), c.loop-stack.invariant.1)
+    (rw c.past_token-frame.ensures (token_step ll lists c.loop-stack.frame (held c.loop-stack.stack.entries.now c.loop-stack.stack.depth) c.loop-stack.output c.loop-stack.written c.loop-stack.invariant.0 c.in-Some.symbol c.in-Some.ensures c.if-symbol-lt128.true c.requires.output), c.loop-stack.invariant.1)
 
-pub first-part-part-requires : goal.first-part-part-requires
-first-part-part-requires g c =
+pub first_part-part-requires : goal.first_part-part-requires
+first_part-part-requires g c =
     let ll = ll1_of (g.met.G.Grammar.implements c.args.g.now) in
     let lists = g.met.O.LengthPolicy.lists c.args.policy.now in
     record { sound = c.requires.sound; frame = c.loop-stack.invariant.0.frames_of.0; before = at_nonterminal ll c.loop-stack.frame c.in-Some.symbol c.in-Some.ensures c.if-symbol-lt128.false }
@@ -76,7 +76,7 @@ behind-requires g c =
     let ll = ll1_of (g.met.G.Grammar.implements c.args.g.now) in
     let lists = g.met.O.LengthPolicy.lists c.args.policy.now in
     let six = side_six ll.limits c.loop-stack.frame.slot in
-    (omega (arith, position_inside ll lists c.loop-stack.frame (held c.loop-stack.stack.entries.now c.loop-stack.stack.depth) c.loop-stack.output c.loop-stack.written c.loop-stack.invariant.0 c.in-Some.symbol c.in-Some.ensures), c.first-part-part.ensures.short)
+    (omega (arith, position_inside ll lists c.loop-stack.frame (held c.loop-stack.stack.entries.now c.loop-stack.stack.depth) c.loop-stack.output c.loop-stack.written c.loop-stack.invariant.0 c.in-Some.symbol c.in-Some.ensures), c.first_part-part.ensures.short)
 
 pub unreachable-requires : goal.unreachable-requires
 unreachable-requires g c =
@@ -88,22 +88,22 @@ pub open-frame-requires-else-symbol-lt128 : goal.open-frame-requires-else-symbol
 open-frame-requires-else-symbol-lt128 g c =
     let ll = ll1_of (g.met.G.Grammar.implements c.args.g.now) in
     let lists = g.met.O.LengthPolicy.lists c.args.policy.now in
-    let p = c.first-part-part.ensures in
+    let p = c.first_part-part.ensures in
     record {
       sound = c.requires.sound;
       short = omega (arith, p.short, c.loop-stack.invariant.0.frames_of.0.short);
-      low = omega (arith, p.first, sentences_length ll lists (c.in-Some.symbol - 128) c.first-part-part.result.length);
+      low = omega (arith, p.first, sentences_length ll lists (c.in-Some.symbol - 128) c.first_part-part.result.length);
     }
 
 pub loop-stack-smaller : goal.loop-stack-smaller
 loop-stack-smaller g c =
     let ll = ll1_of (g.met.G.Grammar.implements c.args.g.now) in
     let lists = g.met.O.LengthPolicy.lists c.args.policy.now in
-    push_less ll lists c.loop-stack.frame c.loop-stack.stack.entries.now c.loop-stack.stack.depth c.loop-stack.output c.loop-stack.written c.loop-stack.invariant.0 c.in-Some.symbol c.in-Some.ensures c.if-symbol-lt128.false c.first-part-part.result c.open-frame-else-symbol-lt128.result c.behind.result c.push.new.self.entries.now c.push.new.self.depth c.first-part-part.ensures c.open-frame-else-symbol-lt128.ensures c.behind.ensures c.if-not-push.ensures.pushed
+    push_less ll lists c.loop-stack.frame c.loop-stack.stack.entries.now c.loop-stack.stack.depth c.loop-stack.output c.loop-stack.written c.loop-stack.invariant.0 c.in-Some.symbol c.in-Some.ensures c.if-symbol-lt128.false c.first_part-part.result c.open-frame-else-symbol-lt128.result c.behind.result c.push.new.self.entries.now c.push.new.self.depth c.first_part-part.ensures c.open-frame-else-symbol-lt128.ensures c.behind.ensures c.if-not-push.ensures.pushed
 
 pub loop-stack-preserved : goal.loop-stack-preserved
 loop-stack-preserved g c =
     let ll = ll1_of (g.met.G.Grammar.implements c.args.g.now) in
     let lists = g.met.O.LengthPolicy.lists c.args.policy.now in
     let p = c.if-not-push.ensures.pushed in
-    (push_step ll lists c.loop-stack.frame c.loop-stack.stack.entries.now c.loop-stack.stack.depth c.loop-stack.output c.loop-stack.written c.loop-stack.invariant.0 c.in-Some.symbol c.in-Some.ensures c.if-symbol-lt128.false c.first-part-part.result c.open-frame-else-symbol-lt128.result c.behind.result c.push.new.self.entries.now c.push.new.self.depth c.first-part-part.ensures c.open-frame-else-symbol-lt128.ensures c.behind.ensures c.if-not-push.ensures.pushed, omega (arith, c.loop-stack.invariant.1, ap length p.entries, length-set c.loop-stack.stack.entries.now c.loop-stack.stack.depth c.behind.result))
+    (push_step ll lists c.loop-stack.frame c.loop-stack.stack.entries.now c.loop-stack.stack.depth c.loop-stack.output c.loop-stack.written c.loop-stack.invariant.0 c.in-Some.symbol c.in-Some.ensures c.if-symbol-lt128.false c.first_part-part.result c.open-frame-else-symbol-lt128.result c.behind.result c.push.new.self.entries.now c.push.new.self.depth c.first_part-part.ensures c.open-frame-else-symbol-lt128.ensures c.behind.ensures c.if-not-push.ensures.pushed, omega (arith, c.loop-stack.invariant.1, ap length p.entries, length-set c.loop-stack.stack.entries.now c.loop-stack.stack.depth c.behind.result))

@@ -5,8 +5,8 @@ use Rattle.numbering.specs.Frames.{suspended_frames, room_of}
 use Rattle.numbering.proofs.Frames.{done_parts, done_short, done_own, closes_to, below_has_place, ends_at, stops_before}
 use Rattle.numbering.proofs.parsing.close.Goals as goal
 
-pub whole-part-part-requires : goal.whole-part-part-requires
-whole-part-part-requires g c =
+pub whole_part-part-requires : goal.whole_part-part-requires
+whole_part-part-requires g c =
     let im = g.met.G.Grammar.implements c.args.g.now in
     let lists = g.met.O.LengthPolicy.lists c.args.policy.now in
     let most = room_of c.args.suspended.now in
@@ -32,8 +32,8 @@ returns-in-Some g c =
     record {
       answer =
           closes_to im lists c.args.tokens.now c.args.frame.now (suspended_frames c.args.suspended.now) c.args.gone (room_of c.args.suspended.now) c.requires.at
-          c.requires.room c.requires.done c.in-Some.below c.note.new.self (suspended_frames c.pop.new.self) c.whole-part-part.result p.holds c.note.ensures
-          c.whole-part-part.ensures;
+          c.requires.room c.requires.done c.in-Some.below c.note.new.self (suspended_frames c.pop.new.self) c.whole_part-part.result p.holds c.note.ensures
+          c.whole_part-part.ensures;
       room = ap {B = ℕ} length p.entries;
     }
 
@@ -57,6 +57,6 @@ returns-else-gone-tokens g c =
     record {
       answer =
           ends_at im lists c.args.tokens.now c.args.frame.now (suspended_frames c.args.suspended.now) c.args.gone (room_of c.args.suspended.now) c.requires.at
-          c.requires.room c.requires.done (ap (held _) p.was_empty ∙ held_none _) c.if-gone-tokens.false c.whole-part-part.result c.whole-part-part.ensures;
+          c.requires.room c.requires.done (ap (held _) p.was_empty ∙ held_none _) c.if-gone-tokens.false c.whole_part-part.result c.whole_part-part.ensures;
       room = ap {B = ℕ} length p.entries;
     }

@@ -7,10 +7,10 @@ use Rattle.numbering.specs.Parts.{blank_frame}
 use Rattle.numbering.proofs.Frames.{begins_at}
 use Rattle.numbering.proofs.parsing.parse.Goals as goal
 
-pub returns-in-default : goal.returns-in-default
-returns-in-default g c =
+pub returns-in_default : goal.returns-in_default
+returns-in_default g c =
     let ch = g.G.Grammar.chosen c.args.g.now in
-    no_choice (sym (c.choice.ensures ∙ ap₂ {C = Option ℕ} (λ (a : ℕ) (x : Next). ch a x) c.start.ensures c.lookahead.ensures) ∙ c.in-default.is)
+    no_choice (sym (c.choice.ensures ∙ ap₂ {C = Option ℕ} (λ (a : ℕ) (x : Next). ch a x) c.start.ensures c.lookahead.ensures) ∙ c.in_default.is)
 
 pub loop-next-init : goal.loop-next-init
 loop-next-init g c =

@@ -14,18 +14,18 @@ close-requires g c =
       short = c.requires.short;
       room = c.requires.room;
       at = c.requires.at;
-      done = all_parsed im c.args.frame.now c.requires.at.frames.0.far c.in-default.ensures;
+      done = all_parsed im c.args.frame.now c.requires.at.frames.0.far c.in_default.ensures;
     }
 
-pub returns-then-not-is-next : goal.returns-then-not-is-next
-returns-then-not-is-next g c =
+pub returns-then-not-is_next : goal.returns-then-not-is_next
+returns-then-not-is_next g c =
     let im = g.met.G.Grammar.implements c.args.g.now in
     let lists = g.met.O.LengthPolicy.lists c.args.policy.now in
     record {
       answer =
           other_stops im lists c.args.tokens.now c.requires.at (room_of c.args.suspended.now) c.requires.room c.in-Some.symbol _
           (terminal_at im c.args.frame.now c.in-Some.symbol c.in-Some.ensures c.if-symbol-lt128.true)
-          (λ h. both_ways c.is-next.result c.if-not-is-next.true (c.is-next.ensures.1 h));
+          (λ h. both_ways c.is_next.result c.if-not-is_next.true (c.is_next.ensures.1 h));
       room = refl;
     }
 
@@ -43,7 +43,7 @@ returns-then-symbol-lt128 g c =
     record {
       answer =
           passes_to im lists c.args.tokens.now c.args.frame.now (suspended_frames c.args.suspended.now) c.args.gone (room_of c.args.suspended.now) c.requires.at
-          c.requires.room c.in-Some.symbol c.in-Some.ensures c.if-symbol-lt128.true (c.is-next.ensures.0 c.if-not-is-next.false) c.note.new.self c.note.ensures;
+          c.requires.room c.in-Some.symbol c.in-Some.ensures c.if-symbol-lt128.true (c.is_next.ensures.0 c.if-not-is_next.false) c.note.new.self c.note.ensures;
       room = refl;
     }
 

@@ -6,10 +6,10 @@ use Rattle.numbering.proofs.Suffixes.{rest_short, terminal_here, length_both, la
 use Rattle.numbering.proofs.ranking.add_part.Goals as goal
 
 pub unreachable-requires : goal.unreachable-requires
-unreachable-requires g c = no_byte _ c.args.position c.requires.there c.in-default.ensures
+unreachable-requires g c = no_byte _ c.args.position c.requires.there c.in_default.ensures
 
-pub overflow-add-result : goal.overflow-add-result
-overflow-add-result g c =
+pub overflow_add-result : goal.overflow_add-result
+overflow_add-result g c =
     let ll = ll1_of (g.met.G.Grammar.implements c.args.g.now) in
     let lists = g.met.O.LengthPolicy.lists c.args.policy.now in
     omega (
@@ -31,8 +31,8 @@ bounds-frame-position g c =
     let limits = (g.met.G.Grammar.implements c.args.g.now).limits in
     omega (arith, side_six limits c.args.frame.now.slot, c.requires.there)
 
-pub overflow-add-position : goal.overflow-add-position
-overflow-add-position g c =
+pub overflow_add-position : goal.overflow_add-position
+overflow_add-position g c =
     let limits = (g.met.G.Grammar.implements c.args.g.now).limits in
     omega (arith, side_six limits c.args.frame.now.slot, c.requires.there)
 
@@ -43,8 +43,8 @@ returns-then-position-length g c =
     last_here ll lists c.args.frame.now c.args.position c.requires.there c.requires.parts c.args.rest c.requires.rest c.in-Some.symbol c.in-Some.ensures
     c.if-symbol-lt128.false no_part _ refl (c.if-position-length.true ∙ c.length.ensures)
 
-pub overflow-add-result-2 : goal.overflow-add-result-2
-overflow-add-result-2 g c =
+pub overflow_add-result-2 : goal.overflow_add-result-2
+overflow_add-result-2 g c =
     let ll = ll1_of (g.met.G.Grammar.implements c.args.g.now) in
     let lists = g.met.O.LengthPolicy.lists c.args.policy.now in
     omega (

@@ -11,8 +11,8 @@ loop-position-init g c =
     let lists = g.met.O.LengthPolicy.lists c.args.policy.now in
     add_none ll lists _ _ (drop_all c.length-position.result _ (omega (arith, c.length-position.ensures)))
 
-pub add-part-sum-requires : goal.add-part-sum-requires
-add-part-sum-requires g c =
+pub add_part-sum-requires : goal.add_part-sum-requires
+add_part-sum-requires g c =
     let G = g.G.Grammar.meaning c.args.g.now in
     let order = g.O.LengthPolicy.order c.args.policy.now in
     let f = c.args.frame.now in

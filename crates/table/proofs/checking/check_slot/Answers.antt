@@ -10,11 +10,11 @@ loop-position-init g c =
     let e = c.requires.ready.laid.offsets c.args.s c.requires.inside in
     (omega arith, subst (λ (r : ℕ). ObeyBelow G c.args.layout.now.bound c.args.cells.now (place c.args.layout.now.bound r 0)) (sym e) c.requires.below)
 
-pub overflow-add-at : goal.overflow-add-at
-overflow-add-at g c =
+pub overflow_add-at : goal.overflow_add-at
+overflow_add-at g c =
     let G = g.G.Grammar.meaning c.args.g.now in
     let f = g.met.G.Grammar.implements c.args.g.now in
-    omega (arith, rows_few f.limits, first_row_le G c.args.s G.slots (omega arith), c.loop-position.invariant.0, c.length-position-end.type-inv)
+    omega (arith, rows_few f.limits, first_row_le G c.args.s G.slots (omega arith), c.loop-position.invariant.0, c.length-position-end.type_inv)
 
 pub returns : goal.returns
 returns g c =

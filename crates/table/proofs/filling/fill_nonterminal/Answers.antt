@@ -6,8 +6,8 @@ use Rattle.table.proofs.Fills.{keeps_on, keeps_table, keeps_ready, keeps_prefix,
 use Rattle.table.proofs.Due.{nonterminal_due}
 use Rattle.table.proofs.filling.fill_nonterminal.Goals as goal
 
-pub fill-prefix-requires : goal.fill-prefix-requires
-fill-prefix-requires g c =
+pub fill_prefix-requires : goal.fill_prefix-requires
+fill_prefix-requires g c =
     let k = c.loop-s.invariant.0 in
     record {
       ready = keeps_ready k c.requires.ready;
@@ -15,16 +15,16 @@ fill-prefix-requires g c =
       corners = λ B l e. k.still (Nonterminal B) c.args.m l c.requires.ready.short (c.requires.corners B l e);
     }
 
-pub returns-then-not-fill-prefix : goal.returns-then-not-fill-prefix
-returns-then-not-fill-prefix g c = let got = c.if-not-fill-prefix.ensures in record { keeps = keeps_on {v = c.fill-prefix.new.cells} c.loop-s.invariant.0 got.keeps; done = got.done }
+pub returns-then-not-fill_prefix : goal.returns-then-not-fill_prefix
+returns-then-not-fill_prefix g c = let got = c.if-not-fill_prefix.ensures in record { keeps = keeps_on {v = c.fill_prefix.new.cells} c.loop-s.invariant.0 got.keeps; done = got.done }
 
 pub loop-s-preserved : goal.loop-s-preserved
 loop-s-preserved g c =
     let G = g.G.Grammar.meaning c.args.g.now in
-    let got = c.if-not-fill-prefix.ensures in (
-      keeps_on {v = c.fill-prefix.new.cells} c.loop-s.invariant.0 got.keeps,
-      below_more (PrefixCorrectOf G c.args.layout.now.bound c.fill-prefix.new.cells c.args.a c.args.m) c.loop-s.s
-          (λ q l. keeps_prefix {G = G} {u = c.fill-prefix.new.cells} got.keeps c.requires.ready.short (omega arith) (c.loop-s.invariant.1 q l))
+    let got = c.if-not-fill_prefix.ensures in (
+      keeps_on {v = c.fill_prefix.new.cells} c.loop-s.invariant.0 got.keeps,
+      below_more (PrefixCorrectOf G c.args.layout.now.bound c.fill_prefix.new.cells c.args.a c.args.m) c.loop-s.s
+          (λ q l. keeps_prefix {G = G} {u = c.fill_prefix.new.cells} got.keeps c.requires.ready.short (omega arith) (c.loop-s.invariant.1 q l))
           got.done,
     )
 

@@ -8,8 +8,8 @@ use Rattle.table.proofs.Fills.{keeps_on, keeps_below, keeps_table}
 use Rattle.table.proofs.Due.{suffix_due, keeps_firsts}
 use Rattle.table.proofs.filling.fill_suffixes.Goals as goal
 
-pub overflow-add-offset : goal.overflow-add-offset
-overflow-add-offset g c =
+pub overflow_add-offset : goal.overflow_add-offset
+overflow_add-offset g c =
     let G = g.G.Grammar.meaning c.args.g.now in
     let f = g.met.G.Grammar.implements c.args.g.now in
     omega (arith, rows_few f.limits, first_row_le G c.args.s G.slots (omega arith), c.requires.ready.table.laid.offsets c.args.s c.requires.inside)

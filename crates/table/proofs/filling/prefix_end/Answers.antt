@@ -10,10 +10,10 @@ pub loop-p-init : goal.loop-p-init
 loop-p-init g c = none
 
 pub unreachable-requires : goal.unreachable-requires
-unreachable-requires g c = no_byte _ c.loop-p.p (omega arith) c.in-default.ensures
+unreachable-requires g c = no_byte _ c.loop-p.p (omega arith) c.in_default.ensures
 
-pub is-nullable-requires : goal.is-nullable-requires
-is-nullable-requires g c =
+pub is_nullable-requires : goal.is_nullable-requires
+is_nullable-requires g c =
     let G = g.G.Grammar.meaning c.args.g.now in
     let f = g.met.G.Grammar.implements c.args.g.now in (
       c.requires.ready.room.small,
@@ -22,19 +22,19 @@ is-nullable-requires g c =
           cell_inside c.requires.ready.room _ 0 (nonterminal_row G _ (is_nonterminal f.limits c.args.s c.loop-p.p c.in-Some.symbol i l).1) (omega arith),
     )
 
-pub returns-then-not-is-nullable : goal.returns-then-not-is-nullable
-returns-then-not-is-nullable g c =
+pub returns-then-not-is_nullable : goal.returns-then-not-is_nullable
+returns-then-not-is_nullable g c =
     let f = g.met.G.Grammar.implements c.args.g.now in
     record {
       far = omega arith;
       before = c.loop-p.invariant;
-      last = prefix_ends c.args.layout.now.bound c.args.cells.now f.limits c.args.s c.loop-p.p c.in-Some.symbol c.loop-p.invariant c.requires.leaders c.in-Some.ensures c.if-not-is-nullable.ensures;
+      last = prefix_ends c.args.layout.now.bound c.args.cells.now f.limits c.args.s c.loop-p.p c.in-Some.symbol c.loop-p.invariant c.requires.leaders c.in-Some.ensures c.if-not-is_nullable.ensures;
     }
 
 pub loop-p-preserved : goal.loop-p-preserved
 loop-p-preserved g c =
     let f = g.met.G.Grammar.implements c.args.g.now in
-    prefix_more c.args.layout.now.bound c.args.cells.now f.limits c.args.s c.loop-p.p c.in-Some.symbol c.loop-p.invariant c.requires.leaders c.in-Some.ensures c.if-not-is-nullable.ensures
+    prefix_more c.args.layout.now.bound c.args.cells.now f.limits c.args.s c.loop-p.p c.in-Some.symbol c.loop-p.invariant c.requires.leaders c.in-Some.ensures c.if-not-is_nullable.ensures
 
 pub returns : goal.returns
 returns g c =

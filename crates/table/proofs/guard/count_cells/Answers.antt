@@ -2,6 +2,6 @@ use Rattle.std.proofs.Common.{arith}
 use Rattle.table.proofs.Fills.{keeps_table}
 use Rattle.table.proofs.guard.count_cells.Goals as goal
 
-pub fill-length-requires : goal.fill-length-requires
-fill-length-requires g c =
+pub fill_length-requires : goal.fill_length-requires
+fill_length-requires g c =
     record { ready = record { table = keeps_table c.loop-m.invariant.3 c.requires.ready; short = omega arith; below = c.loop-m.invariant.4 } }

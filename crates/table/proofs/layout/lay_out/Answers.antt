@@ -7,14 +7,14 @@ use Rattle.table.proofs.layout.lay_out.Goals as goal
 pub loop-s-init : goal.loop-s-init
 loop-s-init g c = (c.nonterminals-rows.ensures ∙ sym (first_row_none _), refl, (λ q l. absurd (omega arith)), λ q l. zeros_at 64 q)
 
-pub overflow-add-rows : goal.overflow-add-rows
-overflow-add-rows g c =
+pub overflow_add-rows : goal.overflow_add-rows
+overflow_add-rows g c =
     let G = g.G.Grammar.meaning c.args.g.now in
     let f = g.met.G.Grammar.implements c.args.g.now in
-    omega (arith, rows_few f.limits, first_row_le G c.loop-s.s G.slots (omega arith), c.length.type-inv)
+    omega (arith, rows_few f.limits, first_row_le G c.loop-s.s G.slots (omega arith), c.length.type_inv)
 
-pub overflow-cast-result : goal.overflow-cast-result
-overflow-cast-result g c =
+pub overflow_cast-result : goal.overflow_cast-result
+overflow_cast-result g c =
     let G = g.G.Grammar.meaning c.args.g.now in
     let f = g.met.G.Grammar.implements c.args.g.now in
     omega (arith, rows_few f.limits, first_row_le G c.loop-s.s G.slots (omega arith), c.loop-s.invariant.0)
@@ -29,8 +29,8 @@ loop-s-preserved g c =
       λ q l. past_write c.loop-s.offsets c.loop-s.s q c.loop-s.rows c.loop-s.invariant.3 l,
     )
 
-pub returns-laid : goal.returns-laid
-returns-laid g c =
+pub returns-clause-laid : goal.returns-clause-laid
+returns-clause-laid g c =
     let G = g.G.Grammar.meaning c.args.g.now in
     let e : c.loop-s.s ≡ G.slots = omega arith in
     record {
@@ -39,5 +39,5 @@ returns-laid g c =
       offsets = λ s l. c.loop-s.invariant.2 s (omega arith);
     }
 
-pub returns-past : goal.returns-past
-returns-past g c = λ s l. c.loop-s.invariant.3 s (omega arith)
+pub returns-clause-past : goal.returns-clause-past
+returns-clause-past g c = λ s l. c.loop-s.invariant.3 s (omega arith)

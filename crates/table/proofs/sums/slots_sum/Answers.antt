@@ -8,23 +8,23 @@ use Rattle.table.proofs.sums.slots_sum.Goals as goal
 pub loop-s-init : goal.loop-s-init
 loop-s-init g c = (sym (slots_none _ _ _), lit< tt)
 
-pub returns-in-err-sum : goal.returns-in-err-sum
-returns-in-err-sum g c =
+pub returns-in_err-sum : goal.returns-in_err-sum
+returns-in_err-sum g c =
     let G = g.G.Grammar.meaning c.args.g.now in
     let f = λ (s : ℕ). suffix_cell c.args.layout.now.bound c.args.cells.now (right_of (G.slot s)) (first_row G s) c.args.m in
     let more = slots_more G c.args.a f c.loop-s.s in
     let on : c.loop-s.s + 1 ≤ G.slots = omega arith in
     let le = slots_le G c.args.a f (c.loop-s.s + 1) G.slots on in
-    let past = c.in-err-sum.ensures in
-    rw c.from-residual.ensures (omega (arith, c.slot-count.ensures))
+    let past = c.in_err-sum.ensures in
+    rw c.from_residual.ensures (omega (arith, c.slot_count.ensures))
 
 pub loop-s-preserved : goal.loop-s-preserved
 loop-s-preserved g c =
     let G = g.G.Grammar.meaning c.args.g.now in
     let f = λ (s : ℕ). suffix_cell c.args.layout.now.bound c.args.cells.now (right_of (G.slot s)) (first_row G s) c.args.m in
     let more = slots_more G c.args.a f c.loop-s.s in
-    let got = c.in-ok-sum.ensures in
-    (omega (arith, c.slot-count.ensures), omega arith)
+    let got = c.in_ok-sum.ensures in
+    (omega (arith, c.slot_count.ensures), omega arith)
 
 pub returns : goal.returns
 returns g c =

@@ -4,8 +4,8 @@ use Rattle.table.specs.declared.sums.Terms.{Terms}
 use Rattle.table.proofs.Rows.{rows_few, cell_inside, nonterminal_row}
 use Rattle.table.proofs.sums.sum_of.Goals as goal
 
-pub suffix-sum-requires : goal.suffix-sum-requires
-suffix-sum-requires g c =
+pub suffix_sum-requires : goal.suffix_sum-requires
+suffix_sum-requires g c =
     let G = g.G.Grammar.meaning c.args.g.now in
     let f = g.met.G.Grammar.implements c.args.g.now in
     let h = subst (λ (x : Terms). TermsRow G x c.args.at) c.in-Split.is c.requires.row in

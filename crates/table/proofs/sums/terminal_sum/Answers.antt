@@ -24,6 +24,6 @@ returns-else-m-eq1 c =
 
 pub returns-else-empty : goal.returns-else-empty
 returns-else-empty c =
-    subst (λ (n : ℕ). Within n c.within-limit.result)
+    subst (λ (n : ℕ). Within n c.within_limit.result)
     (terminal_before c.args.bound c.args.cells.now c.args.empty c.args.rest c.args.m c.if-empty.false c.if-m-eq0.false)
-    c.within-limit.ensures
+    c.within_limit.ensures

@@ -8,10 +8,10 @@ pub unreachable-requires : goal.unreachable-requires
 unreachable-requires g c =
     let G = g.G.Grammar.meaning c.args.g.now in
     let h = subst (λ (ρ : Row). RowOf G ρ) c.in-Suffix.is c.requires in
-    no_byte _ c.in-Suffix.position h.1 c.in-default.ensures
+    no_byte _ c.in-Suffix.position h.1 c.in_default.ensures
 
-pub overflow-add-empty : goal.overflow-add-empty
-overflow-add-empty g c =
+pub overflow_add-empty : goal.overflow_add-empty
+overflow_add-empty g c =
     let G = g.G.Grammar.meaning c.args.g.now in
     let f = g.met.G.Grammar.implements c.args.g.now in
     let h = subst (λ (ρ : Row). RowOf G ρ) c.in-Suffix.is c.requires in

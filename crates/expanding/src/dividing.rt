@@ -88,9 +88,9 @@ pub(crate) fn first_part<G: Grammar, O: LengthPolicy>(
     a: u8,
 ) -> Part
     requires sound { SoundCounts (G.meaning g.now) counts.now }
-    requires frame { FrameOf (order policy.now) (G.meaning g.now) counts.now.bound f }
+    requires frame { FrameOf (O.order policy.now) (G.meaning g.now) counts.now.bound f }
     requires before { AtNonterminal (G.meaning g.now) f a }
-    ensures { Parted (order policy.now) (G.meaning g.now) f a result }
+    ensures { Parted (O.order policy.now) (G.meaning g.now) f a result }
 {
     if f.position + 1 == g.length(f.slot) {
         return Part {

@@ -63,7 +63,7 @@ fn write_numbered<G: Grammar, O: LengthPolicy>(
     requires short { n ≤ counts.now.bound }
     requires stack { (n + 1) * (G.meaning g.now).nonterminals ≤ length stack.old }
     requires output { n ≤ length output.old }
-    ensures { SentenceAnswer (order policy.now) (G.meaning g.now) n number output.old output.new result }
+    ensures { SentenceAnswer (O.order policy.now) (G.meaning g.now) n number output.old output.new result }
 {
     let count = counts.row(Row::Nonterminal(g.start()))[n];
     below_count(number, count)?;
@@ -81,7 +81,7 @@ fn expand_by<G: Grammar, O: LengthPolicy>(
     stack: &mut [Frame],
     output: &mut [u8],
 ) -> Result<(), Fault>
-    ensures { ExpandAnswer (order policy.now) (G.meaning g.now) table.now.bound table.now.cells.now n number stack.old output.old output.new result }
+    ensures { ExpandAnswer (O.order policy.now) (G.meaning g.now) table.now.bound table.now.cells.now n number stack.old output.old output.new result }
 {
     let counts = counts_of(g, table, n, stack.len(), output.len())?;
     write_numbered(g, policy, &counts, n, number, stack, output)

@@ -29,7 +29,7 @@ pub(crate) fn write<G: Grammar, O: LengthPolicy>(
     requires low { number < count (G.meaning g.now) (G.meaning g.now).start n }
     requires stack { (n + 1) * (G.meaning g.now).nonterminals ≤ length entries.old }
     requires output { n ≤ length output.old }
-    ensures { Written (order policy.now) (G.meaning g.now) n number output.old output.new }
+    ensures { Written (O.order policy.now) (G.meaning g.now) n number output.old output.new }
 {
     let mut stack = Stack::over(entries);
     let mut frame = open(g, counts, g.start(), n as u8, number);

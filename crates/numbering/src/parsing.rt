@@ -76,9 +76,9 @@ fn close<G: Grammar, O: LengthPolicy>(
     requires sound { SoundCounts (G.meaning g.now) counts.now }
     requires short { length tokens.now ≤ counts.now.bound }
     requires room { (length tokens.now + 1) * (G.meaning g.now).nonterminals ≤ room_of suspended.old }
-    requires at { ParseAt (order policy.now) (G.meaning g.now) (G.chosen g.now) (G.levels g.now) tokens.now frame.old (suspended_frames suspended.old) gone }
+    requires at { ParseAt (O.order policy.now) (G.meaning g.now) (G.chosen g.now) (G.levels g.now) tokens.now frame.old (suspended_frames suspended.old) gone }
     requires done { frame.old.position ≡ length (frame_side (G.meaning g.now) frame.old) }
-    ensures answer { StepAnswer (order policy.now) (G.meaning g.now) (G.chosen g.now) (G.levels g.now) tokens.now (room_of suspended.old) frame.old (suspended_frames suspended.old) frame.new (suspended_frames suspended.new) result }
+    ensures answer { StepAnswer (O.order policy.now) (G.meaning g.now) (G.chosen g.now) (G.levels g.now) tokens.now (room_of suspended.old) frame.old (suspended_frames suspended.old) frame.new (suspended_frames suspended.new) result }
     ensures room { room_of suspended.new ≡ room_of suspended.old }
 {
     let part = whole_part(g, policy, counts, frame);
@@ -111,8 +111,8 @@ fn step<G: Grammar, O: LengthPolicy>(
     requires sound { SoundCounts (G.meaning g.now) counts.now }
     requires short { length tokens.now ≤ counts.now.bound }
     requires room { (length tokens.now + 1) * (G.meaning g.now).nonterminals ≤ room_of suspended.old }
-    requires at { ParseAt (order policy.now) (G.meaning g.now) (G.chosen g.now) (G.levels g.now) tokens.now frame.old (suspended_frames suspended.old) gone }
-    ensures answer { StepAnswer (order policy.now) (G.meaning g.now) (G.chosen g.now) (G.levels g.now) tokens.now (room_of suspended.old) frame.old (suspended_frames suspended.old) frame.new (suspended_frames suspended.new) result }
+    requires at { ParseAt (O.order policy.now) (G.meaning g.now) (G.chosen g.now) (G.levels g.now) tokens.now frame.old (suspended_frames suspended.old) gone }
+    ensures answer { StepAnswer (O.order policy.now) (G.meaning g.now) (G.chosen g.now) (G.levels g.now) tokens.now (room_of suspended.old) frame.old (suspended_frames suspended.old) frame.new (suspended_frames suspended.new) result }
     ensures room { room_of suspended.new ≡ room_of suspended.old }
 {
     let Some(symbol) = g.symbol(frame.slot, frame.position) else {
@@ -143,7 +143,7 @@ pub(crate) fn parse<G: Grammar, O: LengthPolicy>(
     requires sound { SoundCounts (G.meaning g.now) counts.now }
     requires short { length tokens.now ≤ counts.now.bound }
     requires room { (length tokens.now + 1) * (G.meaning g.now).nonterminals ≤ length stack.old }
-    ensures { ParseAnswer (order policy.now) (G.meaning g.now) (G.chosen g.now) tokens.now result }
+    ensures { ParseAnswer (O.order policy.now) (G.meaning g.now) (G.chosen g.now) tokens.now result }
 {
     let Some(slot) = g.choice(g.start(), lookahead(tokens, 0)) else {
         return Err(0);

@@ -37,7 +37,7 @@ fn join<O: LengthPolicy>(policy: &O, firsts: &[u64], rests: &[u64], part: Part, 
     requires part_low { part.rank < slice_index firsts.now part.length }
     requires rest_low { rest.rank < slice_index rests.now rest.length }
     requires small { sum_listed (entry_at firsts.now) (entry_at rests.now) (part.length + rest.length) (order policy.now (part.length + rest.length)) < 2 ^ 63 }
-    ensures { Joins (order policy.now) firsts.now rests.now part rest result }
+    ensures { Joins (O.order policy.now) firsts.now rests.now part rest result }
 {
     let m = part.length + rest.length;
     let mut before = 0;
@@ -63,10 +63,10 @@ fn add_part<G: Grammar, O: LengthPolicy>(
     requires sound { SoundCounts (G.meaning g.now) counts.now }
     requires inside { frame.now.slot < (G.meaning g.now).slots }
     requires there { position < length (frame_side (G.meaning g.now) frame.now) }
-    requires parts { AllParts (order policy.now) (G.meaning g.now) (drop position (frame_side (G.meaning g.now) frame.now)) (drop position frame.now.parts) }
-    requires short { length (joined (all_tokens (order policy.now) (G.meaning g.now) (drop position (frame_side (G.meaning g.now) frame.now)) (drop position frame.now.parts))) ≤ counts.now.bound }
-    requires rest { AddsUp (order policy.now) (G.meaning g.now) (drop (position + 1) (frame_side (G.meaning g.now) frame.now)) (drop (position + 1) frame.now.parts) rest }
-    ensures { AddsUp (order policy.now) (G.meaning g.now) (drop position (frame_side (G.meaning g.now) frame.now)) (drop position frame.now.parts) result }
+    requires parts { AllParts (O.order policy.now) (G.meaning g.now) (drop position (frame_side (G.meaning g.now) frame.now)) (drop position frame.now.parts) }
+    requires short { length (joined (all_tokens (O.order policy.now) (G.meaning g.now) (drop position (frame_side (G.meaning g.now) frame.now)) (drop position frame.now.parts))) ≤ counts.now.bound }
+    requires rest { AddsUp (O.order policy.now) (G.meaning g.now) (drop (position + 1) (frame_side (G.meaning g.now) frame.now)) (drop (position + 1) frame.now.parts) rest }
+    ensures { AddsUp (O.order policy.now) (G.meaning g.now) (drop position (frame_side (G.meaning g.now) frame.now)) (drop position frame.now.parts) result }
 {
     let Some(symbol) = g.symbol(frame.slot, position) else {
         unreachable()
@@ -101,9 +101,9 @@ fn add_parts<G: Grammar, O: LengthPolicy>(
 ) -> Part
     requires sound { SoundCounts (G.meaning g.now) counts.now }
     requires inside { frame.now.slot < (G.meaning g.now).slots }
-    requires parts { AllParts (order policy.now) (G.meaning g.now) (frame_side (G.meaning g.now) frame.now) frame.now.parts }
-    requires short { length (joined (all_tokens (order policy.now) (G.meaning g.now) (frame_side (G.meaning g.now) frame.now) frame.now.parts)) ≤ counts.now.bound }
-    ensures { AddsUp (order policy.now) (G.meaning g.now) (frame_side (G.meaning g.now) frame.now) frame.now.parts result }
+    requires parts { AllParts (O.order policy.now) (G.meaning g.now) (frame_side (G.meaning g.now) frame.now) frame.now.parts }
+    requires short { length (joined (all_tokens (O.order policy.now) (G.meaning g.now) (frame_side (G.meaning g.now) frame.now) frame.now.parts)) ≤ counts.now.bound }
+    ensures { AddsUp (O.order policy.now) (G.meaning g.now) (frame_side (G.meaning g.now) frame.now) frame.now.parts result }
 {
     let mut sum = Part { length: 0, rank: 0 };
     for position in (0..g.length(frame.slot)).rev() {
@@ -148,9 +148,9 @@ pub(crate) fn whole_part<G: Grammar, O: LengthPolicy>(
 ) -> Part
     requires sound { SoundCounts (G.meaning g.now) counts.now }
     requires own { (A : ℕ) × (left_of ((G.meaning g.now).slot frame.now.slot) ≡ Some A) }
-    requires parts { AllParts (order policy.now) (G.meaning g.now) (frame_side (G.meaning g.now) frame.now) frame.now.parts }
-    requires short { length (joined (all_tokens (order policy.now) (G.meaning g.now) (frame_side (G.meaning g.now) frame.now) frame.now.parts)) ≤ counts.now.bound }
-    ensures { WholePart (order policy.now) (G.meaning g.now) frame.now result }
+    requires parts { AllParts (O.order policy.now) (G.meaning g.now) (frame_side (G.meaning g.now) frame.now) frame.now.parts }
+    requires short { length (joined (all_tokens (O.order policy.now) (G.meaning g.now) (frame_side (G.meaning g.now) frame.now) frame.now.parts)) ≤ counts.now.bound }
+    ensures { WholePart (O.order policy.now) (G.meaning g.now) frame.now result }
 {
     let Some(a) = g.left(frame.slot) else {
         unreachable()

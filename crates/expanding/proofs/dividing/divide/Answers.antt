@@ -11,8 +11,8 @@ pub overflow_sub-rests : goal.overflow_sub-rests
 overflow_sub-rests g c =
     length_short (g.met.O.LengthPolicy.lists c.args.policy.now) c.args.m c.loop-i.i c.length_at-length.result (omega arith) c.length_at-length.ensures
 
-pub offset-bounds-first-length : goal.offset-bounds-first-length
-offset-bounds-first-length g c =
+pub offset_bounds-first-length : goal.offset_bounds-first-length
+offset_bounds-first-length g c =
     let l = length_short (g.met.O.LengthPolicy.lists c.args.policy.now) c.args.m c.loop-i.i c.length_at-length.result (omega arith) c.length_at-length.ensures in
     omega (arith, c.requires.small)
 

@@ -18,8 +18,8 @@ returns-then-length-part g c = (
       c.args.firsts.now c.args.rests.now _ c.loop-i.invariant.0 c.requires.part_low c.requires.rest_low _ c.rank_of_both.ensures,
 )
 
-pub offset-bounds-firsts-length : goal.offset-bounds-firsts-length
-offset-bounds-firsts-length g c =
+pub offset_bounds-firsts-length : goal.offset_bounds-firsts-length
+offset_bounds-firsts-length g c =
     let l = listed_short (g.met.O.LengthPolicy.lists c.args.policy.now) _ _ _ c.loop-i-test.true c.length_at-length.ensures in
     omega arith
 

@@ -39,9 +39,9 @@ fn divide<O: LengthPolicy>(policy: &O, first: &[u64], rest: &[u64], m: usize, ra
     requires small { m ≤ 48 }
     requires first { m < length first.now }
     requires rest { m < length rest.now }
-    requires low { rank < sum_listed (cell_of first.now) (cell_of rest.now) m (order policy.now m) }
-    requires within { sum_listed (cell_of first.now) (cell_of rest.now) m (order policy.now m) < 2 ^ 63 }
-    ensures { Divided (cell_of first.now) (cell_of rest.now) m (order policy.now m) rank result }
+    requires low { rank < sum_listed (cell_of first.now) (cell_of rest.now) m (O.order policy.now m) }
+    requires within { sum_listed (cell_of first.now) (cell_of rest.now) m (O.order policy.now m) < 2 ^ 63 }
+    ensures { Divided (cell_of first.now) (cell_of rest.now) m (O.order policy.now m) rank result }
 {
     let mut left = rank;
     for i in 0..m + 1 {

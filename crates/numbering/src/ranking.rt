@@ -36,7 +36,7 @@ fn join<O: LengthPolicy>(policy: &O, firsts: &[u64], rests: &[u64], part: Part, 
     requires rest_long { part.length + rest.length < length rests.now }
     requires part_low { part.rank < slice_index firsts.now part.length }
     requires rest_low { rest.rank < slice_index rests.now rest.length }
-    requires small { sum_listed (entry_at firsts.now) (entry_at rests.now) (part.length + rest.length) (order policy.now (part.length + rest.length)) < 2 ^ 63 }
+    requires small { sum_listed (entry_at firsts.now) (entry_at rests.now) (part.length + rest.length) (O.order policy.now (part.length + rest.length)) < 2 ^ 63 }
     ensures { Joins (O.order policy.now) firsts.now rests.now part rest result }
 {
     let m = part.length + rest.length;

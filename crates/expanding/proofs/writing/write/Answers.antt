@@ -84,8 +84,8 @@ unreachable-requires g c =
     let lists = g.met.O.LengthPolicy.lists c.args.policy.now in
     omega (arith, push_room ll lists c.loop-stack.frame c.loop-stack.stack.entries.now c.loop-stack.stack.depth c.loop-stack.output c.loop-stack.written c.loop-stack.invariant.0 c.in-Some.symbol c.in-Some.ensures c.if-symbol-lt128.false c.loop-stack.stack.inside c.loop-stack.invariant.1, c.if-not-push.ensures.pushed.full)
 
-pub open_frame-requires-else-symbol-lt128 : goal.open_frame-requires-else-symbol-lt128
-open_frame-requires-else-symbol-lt128 g c =
+pub open-frame-requires-else-symbol-lt128 : goal.open-frame-requires-else-symbol-lt128
+open-frame-requires-else-symbol-lt128 g c =
     let ll = ll1_of (g.met.G.Grammar.implements c.args.g.now) in
     let lists = g.met.O.LengthPolicy.lists c.args.policy.now in
     let p = c.first_part-part.ensures in
@@ -99,11 +99,11 @@ pub loop-stack-smaller : goal.loop-stack-smaller
 loop-stack-smaller g c =
     let ll = ll1_of (g.met.G.Grammar.implements c.args.g.now) in
     let lists = g.met.O.LengthPolicy.lists c.args.policy.now in
-    push_less ll lists c.loop-stack.frame c.loop-stack.stack.entries.now c.loop-stack.stack.depth c.loop-stack.output c.loop-stack.written c.loop-stack.invariant.0 c.in-Some.symbol c.in-Some.ensures c.if-symbol-lt128.false c.first_part-part.result c.open_frame-else-symbol-lt128.result c.behind.result c.push.new.self.entries.now c.push.new.self.depth c.first_part-part.ensures c.open_frame-else-symbol-lt128.ensures c.behind.ensures c.if-not-push.ensures.pushed
+    push_less ll lists c.loop-stack.frame c.loop-stack.stack.entries.now c.loop-stack.stack.depth c.loop-stack.output c.loop-stack.written c.loop-stack.invariant.0 c.in-Some.symbol c.in-Some.ensures c.if-symbol-lt128.false c.first_part-part.result c.open-frame-else-symbol-lt128.result c.behind.result c.push.new.self.entries.now c.push.new.self.depth c.first_part-part.ensures c.open-frame-else-symbol-lt128.ensures c.behind.ensures c.if-not-push.ensures.pushed
 
 pub loop-stack-preserved : goal.loop-stack-preserved
 loop-stack-preserved g c =
     let ll = ll1_of (g.met.G.Grammar.implements c.args.g.now) in
     let lists = g.met.O.LengthPolicy.lists c.args.policy.now in
     let p = c.if-not-push.ensures.pushed in
-    (push_step ll lists c.loop-stack.frame c.loop-stack.stack.entries.now c.loop-stack.stack.depth c.loop-stack.output c.loop-stack.written c.loop-stack.invariant.0 c.in-Some.symbol c.in-Some.ensures c.if-symbol-lt128.false c.first_part-part.result c.open_frame-else-symbol-lt128.result c.behind.result c.push.new.self.entries.now c.push.new.self.depth c.first_part-part.ensures c.open_frame-else-symbol-lt128.ensures c.behind.ensures c.if-not-push.ensures.pushed, omega (arith, c.loop-stack.invariant.1, ap length p.entries, length-set c.loop-stack.stack.entries.now c.loop-stack.stack.depth c.behind.result))
+    (push_step ll lists c.loop-stack.frame c.loop-stack.stack.entries.now c.loop-stack.stack.depth c.loop-stack.output c.loop-stack.written c.loop-stack.invariant.0 c.in-Some.symbol c.in-Some.ensures c.if-symbol-lt128.false c.first_part-part.result c.open-frame-else-symbol-lt128.result c.behind.result c.push.new.self.entries.now c.push.new.self.depth c.first_part-part.ensures c.open-frame-else-symbol-lt128.ensures c.behind.ensures c.if-not-push.ensures.pushed, omega (arith, c.loop-stack.invariant.1, ap length p.entries, length-set c.loop-stack.stack.entries.now c.loop-stack.stack.depth c.behind.result))

@@ -1,5 +1,5 @@
 -- What an expansion answers, by how it ends; and the number of each sentence. Assumes nothing.
-use Rattle.std.proofs.Common.{◌≡◌, ℕ, ◌<◌, ◌≤◌, true, false, List, [], length, get_or, take, is_ok, Some, Ok, Err, Result, sym, refl, ap, ◌∙◌, subst, arith, MatchResult}
+use Rattle.std.proofs.Common.{◌≡◌, ℕ, ◌<◌, ◌≤◌, List, [], length, get_or, take, Ok, Err, Result, sym, refl, ap, ◌∙◌, subst, arith}
 use Rattle.fault.specs.declared.Fault.{Fault}
 use Rattle.fault.specs.declared.Fault.TheVariants.{NumberTooLarge}
 use Rattle.theory.specs.Grammar.{Cfg, SentenceOf}
@@ -10,13 +10,13 @@ use Rattle.theory.specs.Enumerate.{sentences}
 use Rattle.theory.proofs.Members.{in_at, exactly_unique, Placed, placed}
 use Rattle.theory.proofs.Listing.{sentences_just, sentences_exactly, rank_at, place_rank, rank_in_count, computed_count, sentences_length}
 use Rattle.table.specs.Reading.{counted_row, SoundCounts}
-use Rattle.table.specs.Checked.{Usable, Unusable, CheckedAnswer}
+use Rattle.table.specs.Checked.{Usable, CheckedAnswer}
 use Rattle.table.specs.declared.counts.Counts.{Counts}
 use Rattle.table.specs.declared.Row.TheVariants.{Nonterminal}
 use Rattle.table.proofs.RowCells.{row_long, row_count}
 use Rattle.expanding.specs.Writing.{Written}
-use Rattle.expanding.specs.Calls.{HasNumber, NoNumber, too_large, Expanded, SentenceAnswer, lent_by, ExpandRefused, unusable, no_number, ExpandAnswer}
-use Rattle.expanding.specs.Laws.{Leaves, OneNumber}
+use Rattle.expanding.specs.Calls.{HasNumber, NoNumber, too_large, Expanded, SentenceAnswer, lent_by, unusable, no_number, ExpandAnswer}
+use Rattle.expanding.specs.Laws.{OneNumber}
 
 module _ {G : Cfg} {level : ℕ → ℕ} (ll : Ll1 G level) where
   -- the cell of the start at n, as it is read, is its count

@@ -1,5 +1,5 @@
 -- The parts, the slots and the ranks that a number stands for. Assumes nothing.
-use Rattle.std.proofs.Common.{◌≡◌, ℕ, ◌+◌, ◌-◌, ◌*◌, ◌/◌, ◌%◌, ◌^◌, ◌<◌, ◌≤◌, List, [], ◌∷◌, ◌++◌, length, get_or, take, drop, sym, refl, ap, ◌∙◌, subst, append-nil, arith}
+use Rattle.std.proofs.Common.{◌≡◌, ℕ, ◌+◌, ◌-◌, ◌*◌, ◌/◌, ◌%◌, ◌^◌, ◌<◌, ◌≤◌, List, [], ◌∷◌, ◌++◌, length, get_or, take, sym, refl, ap, ◌∙◌, arith}
 use Rattle.std.proofs.lemmas.List.{drop_all}
 use Rattle.theory.specs.Lists.{joined}
 use Rattle.theory.specs.Grammar.{Symbol, nonterminal, Cfg}
@@ -14,14 +14,14 @@ use Rattle.table.specs.declared.Row.TheVariants.{Nonterminal, Suffix}
 use Rattle.table.proofs.Sides.{drop_next, nonterminal_known}
 use Rattle.table.proofs.RowCells.{row_long, row_count, row_low, ways_read}
 use Rattle.walk.specs.Depth.{side_of, suffix_of, next_place}
-use Rattle.walk.specs.Splits.{sum_listed, SplitAt}
+use Rattle.walk.specs.Splits.{sum_listed}
 use Rattle.walk.specs.Ways.{ways, CountedBy, slot_ways, ways_before}
 use Rattle.walk.proofs.Splits.{listed_more, product_le, split_inside, split_by_division}
 use Rattle.walk.proofs.Ways.{length_order, order_short, ways_none, last_length, last_nth, sum_ways, sum_count, split_short, split_first, split_rest, split_nth}
 use Rattle.walk.proofs.Slots.{slot_own, slot_inside}
 use Rattle.expanding.specs.declared.frame.Frame.{Frame}
 use Rattle.expanding.specs.declared.frame.Part.{Part}
-use Rattle.expanding.specs.Frames.{place_of, ways_left, to_write, rest_frame, FrameOf, AtNonterminal}
+use Rattle.expanding.specs.Frames.{place_of, FrameOf, AtNonterminal}
 use Rattle.expanding.specs.Dividing.{cell_of, Divided, Opened, Parted}
 
 -- the length at a place of the lengths up to m is at most m

@@ -1,5 +1,5 @@
 -- The steps of the writing of a sentence: a token written, a frame opened, a frame closed. Assumes nothing.
-use Rattle.std.proofs.Common.{◌≡◌, ℕ, zero, suc, ◌+◌, ◌-◌, ◌*◌, ◌<◌, ◌≤◌, ◌≢◌, List, [], ◌∷◌, ◌++◌, map, length, get_or, take, drop, set, Some, None, sym, refl, ap, ◌∙◌, subst, ⊎_elim, append_assoc, append-nil, mul-le-mul_right, add-one, arith, length-set}
+use Rattle.std.proofs.Common.{◌≡◌, ℕ, suc, ◌+◌, ◌-◌, ◌*◌, ◌<◌, ◌≤◌, ◌≢◌, List, [], ◌∷◌, ◌++◌, map, length, get_or, take, drop, set, Some, None, sym, refl, ap, ◌∙◌, subst, ⊎_elim, append_assoc, append-nil, mul-le-mul_right, add-one, arith, length-set}
 use lib.ListN.{length-map}
 use Rattle.std.proofs.lemmas.List.{drop_all, take_more_set, get_or-set_other}
 use Rattle.std.proofs.lemmas.Bool.{cases_eq}
@@ -7,24 +7,24 @@ use Rattle.theory.specs.Lists.{joined}
 use Rattle.theory.specs.Grammar.{Symbol, terminal, nonterminal, Cfg}
 use Rattle.theory.specs.Sound.{Ll1}
 use Rattle.theory.specs.Order.{LengthOrder, ListsLengths}
-use Rattle.theory.specs.Count.{left_of, right_of, count}
+use Rattle.theory.specs.Count.{right_of}
 use Rattle.theory.specs.Enumerate.{sentences}
-use Rattle.theory.proofs.Listing.{sentences_length, ways_length}
+use Rattle.theory.proofs.Listing.{ways_length}
 use Rattle.grammar.specs.Interface.{byte_of, byte_at}
 use Rattle.table.specs.Calls.{SamePast}
-use Rattle.table.proofs.Sides.{SymbolAt, symbol_at, no_byte, is_terminal, is_nonterminal, drop_next}
-use Rattle.walk.specs.Depth.{Place, side_of, suffix_of, front_of, next_place, Chain}
+use Rattle.table.proofs.Sides.{symbol_at, no_byte, is_terminal, is_nonterminal, drop_next}
+use Rattle.walk.specs.Depth.{side_of, suffix_of, next_place, Chain}
 use Rattle.walk.specs.Measure.{measure}
-use Rattle.walk.specs.Ways.{ways, slot_ways, ways_before}
+use Rattle.walk.specs.Ways.{ways}
 use Rattle.walk.proofs.Depth.{begin_chain, pass_token, open_frame, close_frame, depth_bound, room}
 use Rattle.walk.proofs.Measure.{further_falls, open_falls, close_falls}
 use Rattle.walk.proofs.Ways.{ways_none, ways_none_only, ways_terminal_none, terminal_length, terminal_nth}
 use Rattle.walk.proofs.Slots.{slot_nth}
 use Rattle.expanding.specs.declared.frame.Frame.{Frame}
 use Rattle.expanding.specs.declared.frame.Part.{Part}
-use Rattle.expanding.specs.Frames.{past_token, rest_frame, place_of, ways_left, to_write, all_to_write, tokens_left, FrameOf, FramesOf, AtNonterminal}
+use Rattle.expanding.specs.Frames.{past_token, rest_frame, place_of, ways_left, to_write, all_to_write, FrameOf, AtNonterminal}
 use Rattle.expanding.specs.Dividing.{Opened, Parted}
-use Rattle.expanding.specs.Writing.{Written, Writing}
+use Rattle.expanding.specs.Writing.{Writing}
 
 -- past the last symbol there is none
 at_end : (Ys : List Symbol) (p : ℕ) → p ≤ length Ys → None ≡ byte_at Ys p → p ≡ length Ys

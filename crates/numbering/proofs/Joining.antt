@@ -1,5 +1,5 @@
 -- The sum that joins a first part and a rest. Assumes nothing.
-use Rattle.std.proofs.Common.{◌≡◌, ℕ, ◌+◌, ◌-◌, ◌*◌, ◌^◌, ◌<◌, ◌≤◌, List, length, get_or, take, refl, ap, arith}
+use Rattle.std.proofs.Common.{◌≡◌, ℕ, ◌+◌, ◌-◌, ◌*◌, ◌^◌, ◌<◌, ◌≤◌, List, get_or, take, refl, ap, arith}
 use Rattle.theory.specs.Order.{LengthOrder, ListsLengths}
 use Rattle.walk.specs.Splits.{sum_listed, SplitAt}
 use Rattle.walk.proofs.Splits.{listed_more, listed_next_le, split_below}

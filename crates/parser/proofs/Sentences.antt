@@ -1,5 +1,5 @@
 -- The parse goes through exactly for what the symbols derive, where each nonterminal is followed by what may follow it. Assumes nothing.
-use Rattle.std.proofs.Common.{◌≡◌, ℕ, List, [], ◌∷◌, ◌++◌, Some, Option, sym, refl, ap, ◌∙◌, subst, append_assoc, append-nil}
+use Rattle.std.proofs.Common.{◌≡◌, ℕ, List, [], ◌∷◌, ◌++◌, Option, sym, refl, ap, ◌∙◌, subst, append_assoc, append-nil}
 use Rattle.theory.specs.Grammar.{Symbol, nonterminal, Cfg, Derives, done, read, expand, Sentence}
 use Rattle.theory.specs.Sets.{Next, next_of, FollowOrEnd}
 use Rattle.theory.specs.Count.{right_of}

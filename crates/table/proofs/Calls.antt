@@ -1,5 +1,5 @@
 -- What the calls answer, by how they end.
-use Rattle.std.proofs.Common.{◌≡◌, ℕ, ◌+◌, ◌*◌, ◌<◌, ◌≤◌, Bool, true, false, List, length, Some, None, Ok, Err, Decides, Option, Result, sym, refl, ap, ◌∙◌, subst, ⊎_elim, arith, MatchResult}
+use Rattle.std.proofs.Common.{◌≡◌, ℕ, ◌+◌, ◌*◌, Bool, false, List, length, Some, None, Ok, Err, Decides, Option, Result, refl, ⊎_elim, arith, MatchResult}
 use Rattle.std.proofs.lemmas.Bool.{cases_lt}
 use Rattle.fault.specs.declared.Fault.{Fault}
 use Rattle.theory.specs.Grammar.{Cfg}
@@ -7,7 +7,7 @@ use Rattle.theory.specs.Sound.{Ll1}
 use Rattle.table.specs.Rows.{needed, Room}
 use Rattle.table.specs.Counts.{SoundTable}
 use Rattle.table.specs.Calls.{NoRoom, NeededAnswer, Counted, CountRefused, CountAnswer, CheckRefused, no_room, broken, CheckAnswer}
-use Rattle.table.specs.Reading.{CountsOf, SoundCounts}
+use Rattle.table.specs.Reading.{CountsOf}
 use Rattle.table.specs.Checked.{Short, Enough, Sufficient, Insufficient, Usable, Unusable, insufficient, CheckedAnswer}
 use Rattle.table.specs.Checked as checked
 use Rattle.table.specs.declared.counts.Counts.{Counts}

@@ -1,10 +1,10 @@
 -- Where enough cells are right, what an equation says is the count.
-use Rattle.std.proofs.Common.{◌≡◌, ℕ, zero, suc, ◌+◌, ◌-◌, ◌*◌, ◌^◌, ◌<◌, ◌≤◌, ◌⊎◌, List, [], ◌∷◌, length, drop, Some, sym, refl, ap, ◌∙◌, subst, ap₂, inl, inr, ⊎_elim, le_refl, add-one, arith, length-drop}
+use Rattle.std.proofs.Common.{◌≡◌, ℕ, suc, ◌+◌, ◌<◌, ◌≤◌, ◌⊎◌, List, [], ◌∷◌, length, drop, sym, refl, ap, ◌∙◌, subst, inl, inr, ⊎_elim, add-one, arith, length-drop}
 use Rattle.std.proofs.lemmas.Bool.{cases_eq}
 use Rattle.theory.specs.Grammar.{Symbol, terminal, nonterminal, Cfg}
-use Rattle.theory.specs.Sets.{Nullable, none}
+use Rattle.theory.specs.Sets.{none}
 use Rattle.theory.specs.Sound.{Limits, Ll1}
-use Rattle.theory.specs.Count.{left_of, right_of, symbol_count, side_count, count}
+use Rattle.theory.specs.Count.{right_of, symbol_count, side_count, count}
 use Rattle.theory.proofs.Counting.{splits_near, slots_same, count_equation}
 use Rattle.table.specs.Rows.{first_row, cell_at}
 use Rattle.table.specs.Equations.{suffix_cell, suffix_sum, equation}

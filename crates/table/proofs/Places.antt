@@ -1,9 +1,9 @@
 -- The needed cells are the cells of the rows.
-use Rattle.std.proofs.Common.{◌≡◌, ℕ, zero, suc, ◌+◌, ◌-◌, ◌*◌, ◌/◌, ◌%◌, ◌<◌, ◌≤◌, sym, refl, ap, ◌∙◌, ⊎_elim, le_refl, add-one, arith}
+use Rattle.std.proofs.Common.{ℕ, zero, suc, ◌+◌, ◌-◌, ◌*◌, ◌/◌, ◌%◌, ◌<◌, ◌≤◌, refl, ap, ⊎_elim, le_refl, add-one, arith}
 use Rattle.std.proofs.lemmas.Bool.{cases_lt}
 use Rattle.std.proofs.lemmas.Nat.{div_below, mod_below, div-add-mod'}
 use Rattle.theory.specs.Grammar.{Cfg}
-use Rattle.table.specs.Rows.{first_row, rows, RowOf, row_number, needed, place}
+use Rattle.table.specs.Rows.{first_row, rows, row_number}
 use Rattle.table.specs.Layouts.{AtRow}
 use Rattle.table.specs.Laws.{NeededCellsAreThoseOfTheRows}
 use Rattle.table.specs.declared.Row.{Row}

@@ -1,10 +1,10 @@
 -- How far a right-hand side is nullable.
-use Rattle.std.proofs.Common.{◌≡◌, ℕ, zero, suc, ◌+◌, ◌-◌, ◌*◌, ◌^◌, ◌<◌, ◌≤◌, Bool, true, false, ltb, ◌⊎◌, List, [], ◌∷◌, ◌++◌, length, take, drop, Some, None, sym, refl, ap, ◌∙◌, subst, ap₂, inl, inr, ⊎_elim, le_refl, add-one, arith}
+use Rattle.std.proofs.Common.{◌≡◌, ℕ, zero, suc, ◌+◌, ◌-◌, ◌<◌, ◌≤◌, Bool, true, false, ltb, List, [], ◌∷◌, ◌++◌, length, take, drop, Some, sym, refl, ap, ◌∙◌, subst, inl, inr, ⊎_elim, add-one, arith}
 use Rattle.std.proofs.lemmas.Bool.{cases_eq, cases_lt, lt-ltb, le-ltb, ltb-true, ltb-false}
 use Rattle.std.proofs.lemmas.List.{take-append-drop, take-take, nil_from_length}
-use Rattle.theory.specs.Lists.{In, here, there}
+use Rattle.theory.specs.Lists.{In}
 use Rattle.theory.specs.Grammar.{Symbol, terminal, nonterminal, Slot, empty, rule, Cfg, Derives, done, expand}
-use Rattle.theory.specs.Sets.{Nullable, none, next, Leads, LeftCorner}
+use Rattle.theory.specs.Sets.{Nullable, none, next, Leads}
 use Rattle.theory.specs.Sound.{Limits, Ll1}
 use Rattle.theory.specs.Count.{left_of, right_of, symbol_count, count}
 use Rattle.theory.proofs.Counting.{nullable_join, is_rule, leads_at, count_nullable}
@@ -12,9 +12,9 @@ use Rattle.theory.proofs.Listing.{computed_count}
 use Rattle.grammar.specs.Interface.{byte_at}
 use Rattle.table.specs.Rows.{cell_at}
 use Rattle.table.specs.Terms.{byte_count}
-use Rattle.table.specs.Filling.{Correct, CorrectBelow, Keeps, UnlessOver, FirstsCorrect, NeedsNoRest, CornersCorrect, LeadingCorrect, PrefixCorrectOf, AllDone, Done}
+use Rattle.table.specs.Filling.{Correct, CorrectBelow, Keeps, UnlessOver, FirstsCorrect, NeedsNoRest, CornersCorrect, LeadingCorrect, PrefixCorrectOf, AllDone}
 use Rattle.table.specs.declared.Row.TheVariants.{Nonterminal, Suffix}
-use Rattle.table.proofs.Sides.{drop_next, symbol_there, take_next, nonterminal_known, SymbolAt, symbol_at, is_terminal, is_nonterminal}
+use Rattle.table.proofs.Sides.{drop_next, symbol_there, take_next, nonterminal_known, symbol_at, is_terminal, is_nonterminal}
 
 nullable_take : {G : Cfg} {Xs : List Symbol} → Nullable G Xs → (q : ℕ) → Nullable G (take q Xs)
 nullable_take none zero = none

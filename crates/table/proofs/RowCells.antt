@@ -4,8 +4,8 @@ use Rattle.std.proofs.lemmas.List.{take_all, drop_all, length-take-le, get_or-ta
 use Rattle.std.proofs.lemmas.Nat.{mul-add-lt}
 use Rattle.theory.specs.Grammar.{Symbol, Cfg}
 use Rattle.theory.specs.Sound.{Ll1}
-use Rattle.theory.specs.Count.{left_of, right_of, if_left, side_count, count, one_at}
-use Rattle.table.specs.Rows.{first_row, rows, RowOf, row_number, Room, cell_at}
+use Rattle.theory.specs.Count.{right_of, side_count, count}
+use Rattle.table.specs.Rows.{rows, RowOf, row_number, Room, cell_at}
 use Rattle.table.specs.Counts.{SoundTable, count_of}
 use Rattle.table.specs.Reading.{numbered_row, row_cells, counted_row, side_ways, CountsOf, SoundCounts}
 use Rattle.table.specs.Checked.{Usable}

@@ -1,11 +1,11 @@
 -- What is read of a row gives its equation.
-use Rattle.std.proofs.Common.{◌≡◌, ℕ, suc, ◌+◌, ◌-◌, ◌^◌, ◌<◌, ◌≤◌, Bool, true, false, eqb, ◌⊎◌, List, [], ◌∷◌, length, drop, Some, None, Option, sym, refl, ap, ◌∙◌, subst, ap₂, ⊎_elim, add-one, arith}
+use Rattle.std.proofs.Common.{◌≡◌, ℕ, suc, ◌+◌, ◌^◌, ◌<◌, ◌≤◌, Bool, true, false, eqb, List, [], ◌∷◌, length, drop, Some, None, Option, sym, refl, ap, ◌∙◌, subst, ⊎_elim, arith}
 use Rattle.std.proofs.lemmas.Bool.{cases_lt, lt-ltb, le-ltb, eqb-true, eqb-false}
 use Rattle.theory.specs.Grammar.{Symbol, Cfg}
 use Rattle.theory.specs.Sound.{Limits}
-use Rattle.theory.specs.Count.{right_of, symbol_count, sum_splits}
+use Rattle.theory.specs.Count.{right_of, symbol_count}
 use Rattle.theory.proofs.Counting.{upward_same}
-use Rattle.table.specs.Rows.{first_row, rows, RowOf, row_number, place, cell_at}
+use Rattle.table.specs.Rows.{RowOf, row_number, place, cell_at}
 use Rattle.table.specs.Equations.{suffix_cell, suffix_sum, equation, ObeyBelow, LowestBroken}
 use Rattle.table.specs.Terms.{byte_count, rest_count, byte_sum}
 use Rattle.table.specs.Layouts.{AtRow, ReadOf, read_sum, TermsRow}

@@ -1,20 +1,20 @@
 -- The equations have one solution, the counts; and what a count that is filled or stopped says of the counts themselves.
-use Rattle.std.proofs.Common.{◌≡◌, ℕ, zero, suc, ◌+◌, ◌-◌, ◌*◌, ◌^◌, ◌<◌, ◌≤◌, ◌⊎◌, List, [], ◌∷◌, ◌++◌, length, take, drop, Some, sym, refl, ap, ◌∙◌, subst, inl, inr, ⊎_elim, le_refl, add-one, arith}
+use Rattle.std.proofs.Common.{◌≡◌, ℕ, zero, suc, ◌+◌, ◌-◌, ◌^◌, ◌<◌, ◌≤◌, ◌⊎◌, List, [], ◌∷◌, length, take, drop, sym, refl, ap, ◌∙◌, subst, inl, inr, ⊎_elim, le_refl, add-one, arith}
 use Rattle.std.proofs.lemmas.Bool.{cases_eq, cases_lt}
 use Rattle.fault.specs.declared.Fault.{Fault}
 use Rattle.theory.specs.Grammar.{Symbol, terminal, nonterminal, Cfg}
-use Rattle.theory.specs.Sets.{Nullable, none}
+use Rattle.theory.specs.Sets.{Nullable}
 use Rattle.theory.specs.Sound.{Ll1}
-use Rattle.theory.specs.Count.{left_of, right_of, symbol_count, count}
+use Rattle.theory.specs.Count.{right_of, symbol_count, count}
 use Rattle.theory.proofs.Counting.{nullable_join, count_nullable}
 use Rattle.theory.proofs.Members.{exactly_unique}
 use Rattle.theory.proofs.Listing.{computed_count, computed_ways}
 use Rattle.theory.proofs.Laws.{one_way_to_nothing}
 use Rattle.table.specs.Rows.{RowOf, row_number, cell_at, Room}
 use Rattle.table.specs.Equations.{equation, Obeys, AllObey}
-use Rattle.table.specs.Counts.{StandsFor, SoundCell, SoundTable, Passes, CountsFit, FirstPasses, count_of}
-use Rattle.table.specs.Filling.{Correct, CorrectBelow, NeedsNoRest, CornersCorrect, LeadingCorrect, PrefixCorrectOf, Over}
-use Rattle.table.specs.Calls.{NoRoom, too_long, short_cells, Filled, Stopped, CountRefused, no_room, too_large}
+use Rattle.table.specs.Counts.{StandsFor, SoundTable, Passes, CountsFit, FirstPasses, count_of}
+use Rattle.table.specs.Filling.{Correct, CorrectBelow, NeedsNoRest, CornersCorrect, LeadingCorrect}
+use Rattle.table.specs.Calls.{NoRoom, too_long, short_cells, Stopped, CountRefused, no_room, too_large}
 use Rattle.table.specs.Laws.{EquationsHaveOneSolution, CountsFitBelowFailure}
 use Rattle.table.specs.declared.Row.{Row}
 use Rattle.table.specs.declared.Row.TheVariants.{Nonterminal, Suffix}

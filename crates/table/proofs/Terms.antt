@@ -1,9 +1,9 @@
 -- Sums of products where one factor is mostly 0, and the equations by bytes.
-use Rattle.std.proofs.Common.{◌≡◌, ℕ, zero, suc, ◌+◌, ◌-◌, ◌*◌, ◌^◌, ◌<◌, ◌≤◌, Bool, true, false, cond, eqb, ltb, List, [], ◌∷◌, length, get_or, drop, sym, refl, ap, ◌∙◌, subst, ap₂, le_refl, one-mul, mul-zero, zero-mul, mul-one, add-one, arith}
-use Rattle.std.proofs.lemmas.Bool.{lt-ltb, le-ltb, eq-eqb, ne_eqb}
-use Rattle.theory.specs.Count.{one_at, sum_upward, sum_splits, symbol_count}
-use Rattle.theory.proofs.Counting.{upward_none, upward_more, upward_same}
-use Rattle.table.specs.Rows.{place, cell_at}
+use Rattle.std.proofs.Common.{◌≡◌, ℕ, zero, suc, ◌+◌, ◌-◌, ◌*◌, ◌^◌, ◌<◌, ◌≤◌, Bool, true, false, List, sym, refl, ap, ◌∙◌, le_refl, one-mul, mul-zero, zero-mul, mul-one, add-one, arith}
+use Rattle.std.proofs.lemmas.Bool.{lt-ltb, le-ltb, ne_eqb}
+use Rattle.theory.specs.Count.{one_at, sum_upward, sum_splits}
+use Rattle.theory.proofs.Counting.{upward_more, upward_same}
+use Rattle.table.specs.Rows.{cell_at}
 use Rattle.table.specs.Terms.{byte_count, rest_count, byte_sum}
 
 -- a term whose first factor is 0

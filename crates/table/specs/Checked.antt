@@ -1,5 +1,5 @@
 -- When lengths and memory are sufficient for a call over sentences of one length, and what its check answers. Assumes nothing.
-use Rattle.std.specs.Prelude.{◌≡◌, ℕ, ◌+◌, ◌*◌, ◌<◌, ◌≤◌, List, length, is_ok, Some, None, Decides, Option, Result, MatchResult}
+use Rattle.std.specs.Prelude.{ℕ, ◌+◌, ◌*◌, ◌<◌, ◌≤◌, List, length, is_ok, Some, None, Decides, Option, Result, MatchResult}
 use Rattle.fault.specs.declared.Fault.{Fault}
 use Rattle.fault.specs.declared.Fault.TheVariants.{TooLong, ShortMemory, BrokenCell}
 use Rattle.fault.specs.declared.Memory.TheVariants.{Stack, Output}

@@ -1,5 +1,5 @@
 -- What the cells of a table stand for, and when a table is sound. Assumes nothing.
-use Rattle.std.specs.Prelude.{◌≡◌, ℕ, ◌^◌, ◌<◌, ◌≤◌, List, drop}
+use Rattle.std.specs.Prelude.{ℕ, ◌^◌, ◌<◌, ◌≤◌, List, drop}
 use Rattle.theory.specs.Grammar.{Cfg}
 use Rattle.theory.specs.Count.{Count, Ways, right_of, side_count, count}
 use Rattle.table.specs.Rows.{RowOf, row_number, cell_at}

@@ -1,5 +1,5 @@
 -- A table in the making: which cells hold their count already. Assumes nothing.
-use Rattle.std.specs.Prelude.{◌≡◌, ℕ, ◌+◌, ◌^◌, ◌<◌, ◌≤◌, Bool, true, false, ◌⊎◌, List, [], ◌∷◌, length, take, drop, Some, None, Option, ◌==◌, slice_index}
+use Rattle.std.specs.Prelude.{◌≡◌, ℕ, ◌^◌, ◌<◌, ◌≤◌, Bool, true, false, ◌⊎◌, List, [], ◌∷◌, length, take, drop, Some, None, Option, ◌==◌, slice_index}
 use Rattle.theory.specs.Grammar.{Symbol, nonterminal, Cfg}
 use Rattle.theory.specs.Sets.{Nullable, LeftCorner}
 use Rattle.theory.specs.Count.{left_of, right_of, symbol_count, count}

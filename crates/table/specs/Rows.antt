@@ -1,5 +1,5 @@
 -- The rows of a table and where their cells stand. Assumes nothing.
-use Rattle.std.specs.Prelude.{◌≡◌, ℕ, zero, suc, ◌+◌, ◌*◌, ◌<◌, ◌≤◌, List, length, slice_index}
+use Rattle.std.specs.Prelude.{ℕ, zero, suc, ◌+◌, ◌*◌, ◌<◌, ◌≤◌, List, length, slice_index}
 use Rattle.theory.specs.Grammar.{Cfg}
 use Rattle.theory.specs.Count.{right_of}
 use Rattle.table.specs.declared.Row.{Row}

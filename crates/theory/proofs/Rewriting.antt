@@ -4,7 +4,6 @@ use Rattle.std.proofs.lemmas.List.{map-append}
 use Rattle.theory.specs.Grammar.{Symbol, terminal, nonterminal, Cfg, RuleAt, Derives, done, read, expand}
 use Rattle.theory.specs.Sets.{Nullable, none, next, First, itself, inside, behind, Follow, from_first, from_left, Leads, at_front, past, LeftCorner, Reaches, one_step, more}
 use Rattle.theory.specs.Forms.{Rewrites, stop, step, RewritesAtLeastOnce}
-use Rattle.theory.proofs.Unique.{nullable}
 
 -- one rewriting after another
 pub rewrites_trans : {G : Cfg} {Xs Ys Zs : List Symbol} → Rewrites G Xs Ys → Rewrites G Ys Zs → Rewrites G Xs Zs

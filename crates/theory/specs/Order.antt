@@ -1,5 +1,5 @@
 -- Split order, and the rank of a sentence in it. Assumes nothing.
-use Rattle.std.specs.Prelude.{◌≡◌, ℕ, zero, suc, ◌<◌, ◌≤◌, ◌↔◌, List, [], ◌∷◌, ◌++◌, length}
+use Rattle.std.specs.Prelude.{◌≡◌, ℕ, zero, suc, ◌<◌, ◌≤◌, ◌↔◌, List, [], ◌∷◌, length}
 use Rattle.theory.specs.Lists.{In, Distinct, Before, Exactly, joined}
 use Rattle.theory.specs.Grammar.{Symbol, nonterminal, Cfg, RuleAt, Derives, Sentence}
 

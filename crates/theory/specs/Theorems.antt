@@ -5,7 +5,7 @@ use Rattle.theory.specs.Grammar.{Symbol, terminal, nonterminal, Cfg, RuleAt, Der
 use Rattle.theory.specs.Sets.{Nullable, First, Follow, Reaches}
 use Rattle.theory.specs.Forms.{Rewrites, RewritesAtLeastOnce}
 use Rattle.theory.specs.Sound.{PredictSetsApart, Ll1}
-use Rattle.theory.specs.Order.{LengthOrder, ListsLengths, ascending, Parts, Precedes, Rank}
+use Rattle.theory.specs.Order.{LengthOrder, ListsLengths, ascending, Precedes, Rank}
 use Rattle.theory.specs.Count.{Count, Ways, sum_slots, count, side_count}
 use Rattle.theory.specs.Enumerate.{sentences}
 

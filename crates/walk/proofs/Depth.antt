@@ -9,7 +9,7 @@ use Rattle.theory.specs.Count.{left_of, right_of}
 use Rattle.theory.proofs.Counting.{is_rule, nullable_join, leads_at}
 use Rattle.grammar.proofs.Derived.{left_below}
 use Rattle.table.proofs.Sides.{drop_next, take_next, nonterminal_known}
-use Rattle.walk.specs.Depth.{Place, side_of, suffix_of, front_of, next_place, higher, OpenFrame, Below, bottom, above, Chain, closed, top}
+use Rattle.walk.specs.Depth.{Place, side_of, suffix_of, front_of, next_place, higher, OpenFrame, bottom, above, Chain, closed, top}
 
 one_if : (x y : ℕ) → x < y → ◌≡◌ {A = ℕ} (cond (ltb x y) 1 0) 1
 one_if x y l = rw (lt-ltb x y l)

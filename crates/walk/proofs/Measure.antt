@@ -1,9 +1,8 @@
 -- The measure falls with every step: a position further, a frame opened, a frame closed. Assumes nothing.
-use Rattle.std.proofs.Common.{◌≡◌, ℕ, zero, suc, ◌+◌, ◌-◌, ◌*◌, ◌^◌, ◌<◌, ◌≤◌, List, [], ◌∷◌, length, sym, refl, ap, ◌∙◌, mul-le-mul_right, arith}
+use Rattle.std.proofs.Common.{◌≡◌, ℕ, suc, ◌+◌, ◌-◌, ◌*◌, ◌^◌, ◌<◌, ◌≤◌, List, ◌∷◌, length, ap, mul-le-mul_right, arith}
 use native.Mathlib.Nat.{pow-succ', pow-le-pow_right}
 use Rattle.theory.specs.Grammar.{Cfg}
 use Rattle.theory.specs.Sound.{Limits}
-use Rattle.theory.specs.Count.{right_of}
 use Rattle.table.proofs.Sides.{side_six}
 use Rattle.walk.specs.Depth.{Place, side_of, front_of, next_place}
 use Rattle.walk.specs.Measure.{symbols_left, weight, measure}

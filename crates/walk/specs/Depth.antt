@@ -1,5 +1,5 @@
 -- The open frames of a derivation, each opened for a nonterminal of the frame below it. Assumes nothing.
-use Rattle.std.specs.Prelude.{◌≡◌, ℕ, zero, suc, ◌+◌, ◌*◌, ◌<◌, ◌≤◌, cond, List, [], ◌∷◌, length, take, drop, Some, nat_lt}
+use Rattle.std.specs.Prelude.{◌≡◌, ℕ, zero, suc, ◌+◌, ◌*◌, ◌≤◌, cond, List, [], ◌∷◌, length, take, drop, Some, nat_lt}
 use Rattle.theory.specs.Grammar.{Symbol, nonterminal, Cfg}
 use Rattle.theory.specs.Sets.{Nullable}
 use Rattle.theory.specs.Count.{left_of, right_of}

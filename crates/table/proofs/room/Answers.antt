@@ -1,4 +1,4 @@
-use Rattle.std.proofs.Common.{◌≡◌, ◌+◌, ◌*◌, ap, arith}
+use Rattle.std.proofs.Common.{◌+◌, ◌*◌, ap, arith}
 use Rattle.table.specs.Calls.{too_long, short_cells}
 use Rattle.table.proofs.Rows.{rows_few, row_product}
 use Rattle.table.proofs.room.Goals as goal

@@ -1,4 +1,4 @@
-use Rattle.std.proofs.Common.{◌-◌, ◌<◌, ◌≤◌, arith}
+use Rattle.std.proofs.Common.{arith}
 use Rattle.walk.proofs.Splits.{listed_none, right_factor_positive}
 use Rattle.expanding.specs.Dividing.{cell_of}
 use Rattle.expanding.proofs.Parts.{length_short, product_in_sum, behind_product, divided, no_more_products}

@@ -1,12 +1,9 @@
-use Rattle.std.proofs.Common.{◌≡◌, ℕ, ◌+◌, ◌-◌, ◌*◌, ◌<◌, ◌≤◌, List, [], ◌∷◌, length, sym, refl, ap, ◌∙◌, subst, arith, length-set}
+use Rattle.std.proofs.Common.{◌-◌, length, ap, arith, length-set}
 use Rattle.grammar.proofs.Derived.{ll1_of}
 use Rattle.table.proofs.Sides.{side_six}
 use Rattle.theory.proofs.Listing.{sentences_length}
 use Rattle.stack.specs.Held.{held}
-use Rattle.stack.proofs.Tops.{held_none}
-use Rattle.expanding.specs.declared.frame.Frame.{Frame}
-use Rattle.expanding.specs.Writing.{Writing}
-use Rattle.expanding.proofs.Steps.{begin, finish, position_inside, at_nonterminal, token_left, token_room, token_step, token_less}
+use Rattle.expanding.proofs.Steps.{finish, position_inside, at_nonterminal, token_left, token_room, token_step, token_less}
 use Rattle.expanding.proofs.Suspended.{begin_stack, end_step, pop_step, pop_less, push_room, push_step, push_less}
 use Rattle.expanding.proofs.writing.write.Goals as goal
 

@@ -3,7 +3,6 @@ use Rattle.theory.specs.Sets.{Next}
 use Rattle.stack.specs.Held.{held}
 use Rattle.stack.proofs.Tops.{held_none}
 use Rattle.parser.specs.Parser.{no_choice}
-use Rattle.numbering.specs.Parts.{blank_frame}
 use Rattle.numbering.proofs.Frames.{begins_at}
 use Rattle.numbering.proofs.parsing.parse.Goals as goal
 

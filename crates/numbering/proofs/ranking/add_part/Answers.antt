@@ -1,4 +1,4 @@
-use Rattle.std.proofs.Common.{◌≡◌, ℕ, ◌+◌, ◌<◌, ◌≤◌, length, get_or, refl, ◌∙◌, arith}
+use Rattle.std.proofs.Common.{◌≡◌, ℕ, ◌+◌, ◌<◌, ◌≤◌, get_or, refl, ◌∙◌, arith}
 use Rattle.grammar.proofs.Derived.{ll1_of}
 use Rattle.table.proofs.Sides.{side_six, no_byte}
 use Rattle.numbering.specs.Parts.{no_part}

@@ -1,4 +1,4 @@
-use Rattle.std.proofs.Common.{arith, rules}
+use Rattle.std.proofs.Common.{arith}
 use Rattle.stack.proofs.Tops.{put}
 use Rattle.stack.proofs.Stack.push.Goals as goal
 

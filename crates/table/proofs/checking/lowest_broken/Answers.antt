@@ -1,4 +1,4 @@
-use Rattle.std.proofs.Common.{◌≡◌, ℕ, ◌+◌, ◌<◌, ◌≤◌, sym, refl, ap, ◌∙◌, subst, arith}
+use Rattle.std.proofs.Common.{◌≡◌, ℕ, subst, arith}
 use Rattle.table.specs.Rows.{first_row, place}
 use Rattle.table.specs.Equations.{ObeyBelow}
 use Rattle.table.proofs.Rows.{first_row_none, obey_all}

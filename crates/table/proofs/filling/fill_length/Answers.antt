@@ -1,4 +1,3 @@
-use Rattle.std.proofs.Common.{arith}
 use Rattle.table.proofs.Fills.{keeps_on, keeps_ready, one_more}
 use Rattle.table.proofs.filling.fill_length.Goals as goal
 

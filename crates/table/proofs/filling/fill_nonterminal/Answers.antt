@@ -1,7 +1,7 @@
-use Rattle.std.proofs.Common.{◌≡◌, ℕ, ◌+◌, ◌<◌, ◌≤◌, sym, refl, ap, ◌∙◌, subst, arith, below_more}
+use Rattle.std.proofs.Common.{refl, arith, below_more}
 use Rattle.grammar.proofs.Derived.{ll1_of}
 use Rattle.table.specs.Filling.{PrefixCorrectOf}
-use Rattle.table.specs.declared.Row.TheVariants.{Nonterminal, Suffix}
+use Rattle.table.specs.declared.Row.TheVariants.{Nonterminal}
 use Rattle.table.proofs.Fills.{keeps_on, keeps_table, keeps_ready, keeps_prefix, done_more}
 use Rattle.table.proofs.Due.{nonterminal_due}
 use Rattle.table.proofs.filling.fill_nonterminal.Goals as goal

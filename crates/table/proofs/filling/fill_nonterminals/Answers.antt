@@ -1,4 +1,4 @@
-use Rattle.std.proofs.Common.{◌≡◌, ℕ, ◌+◌, ◌<◌, ◌≤◌, List, sym, ◌∙◌, subst, arith}
+use Rattle.std.proofs.Common.{◌≡◌, ℕ, ◌+◌, ◌<◌, List, sym, ◌∙◌, subst, arith}
 use Rattle.table.specs.Filling.{Keeps, Done}
 use Rattle.table.proofs.Fills.{keeps_all, keeps_on, keeps_ready, level_more, level_skip, level_next}
 use Rattle.table.proofs.filling.fill_nonterminals.Goals.{then-level+else-not-fill_nonterminal, else-level}

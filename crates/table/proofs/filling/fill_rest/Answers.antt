@@ -1,4 +1,4 @@
-use Rattle.std.proofs.Common.{◌≡◌, ℕ, ◌+◌, ◌<◌, ◌≤◌, length, sym, refl, ap, ◌∙◌, subst, arith}
+use Rattle.std.proofs.Common.{◌+◌, ◌≤◌, length, arith}
 use Rattle.theory.specs.Count.{right_of}
 use Rattle.table.proofs.Prefix.{leaders_zero, done_leaders, done_firsts, end_last, rest_done}
 use Rattle.table.proofs.filling.fill_rest.Goals as goal

@@ -1,4 +1,4 @@
-use Rattle.std.proofs.Common.{◌≡◌, ℕ, ◌+◌, ◌<◌, ◌≤◌, length, sym, refl, ap, ◌∙◌, subst, arith, below_more}
+use Rattle.std.proofs.Common.{ℕ, ◌<◌, length, arith, below_more}
 use Rattle.theory.specs.Count.{right_of}
 use Rattle.table.specs.Filling.{Correct}
 use Rattle.table.specs.declared.Row.TheVariants.{Suffix}

@@ -1,4 +1,4 @@
-use Rattle.std.proofs.Common.{◌≡◌, ℕ, ◌+◌, ◌-◌, ◌<◌, ◌≤◌, length, take, sym, refl, ap, ◌∙◌, subst, arith}
+use Rattle.std.proofs.Common.{◌≡◌, ℕ, ◌+◌, ◌-◌, ◌≤◌, length, take, subst, arith}
 use Rattle.theory.specs.Sets.{Nullable, none}
 use Rattle.theory.specs.Count.{right_of}
 use Rattle.table.proofs.Sides.{no_byte, symbol_at, is_nonterminal}

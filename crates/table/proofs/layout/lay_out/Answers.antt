@@ -1,4 +1,4 @@
-use Rattle.std.proofs.Common.{◌≡◌, ℕ, ◌<◌, ◌≤◌, sym, refl, ap, ◌∙◌, subst, arith, length-set}
+use Rattle.std.proofs.Common.{◌≡◌, sym, refl, ap, ◌∙◌, arith, length-set}
 use Rattle.table.specs.Rows.{first_row}
 use Rattle.table.proofs.Rows.{first_row_none, first_row_more, first_row_le, rows_few}
 use Rattle.table.proofs.Writes.{below_set, zeros_at, past_write}

@@ -1,4 +1,4 @@
-use Rattle.std.proofs.Common.{◌≡◌, ℕ, ◌+◌, ◌≤◌, sym, ap, arith, lit<}
+use Rattle.std.proofs.Common.{◌≡◌, ◌+◌, ◌≤◌, sym, ap, arith, lit<}
 use Rattle.theory.specs.Count.{sum_upward}
 use Rattle.table.specs.Terms.{from_cell}
 use Rattle.theory.proofs.Counting.{upward_none, upward_more, upward_le}

@@ -1,4 +1,4 @@
-use Rattle.std.proofs.Common.{ℕ, ◌+◌, ◌<◌, arith}
+use Rattle.std.proofs.Common.{◌+◌, ◌<◌, arith}
 use Rattle.table.specs.Rows.{first_row, rows}
 use Rattle.table.proofs.Rows.{suffix_before, rows_few, cell_inside}
 use Rattle.table.proofs.sums.slot_count.Goals as goal

@@ -1,4 +1,4 @@
-use Rattle.std.proofs.Common.{◌≡◌, ℕ, ◌+◌, ◌≤◌, sym, ap, ◌∙◌, arith, lit<}
+use Rattle.std.proofs.Common.{◌≡◌, ℕ, ◌+◌, ◌≤◌, sym, ap, arith, lit<}
 use Rattle.theory.specs.Count.{right_of, sum_slots}
 use Rattle.theory.proofs.Counting.{slots_none, slots_more, slots_le}
 use Rattle.table.specs.Rows.{first_row}

@@ -1,7 +1,7 @@
-use Rattle.std.proofs.Common.{◌≡◌, ℕ, Bool, true, false, sym, ap, ◌∙◌, subst, arith}
+use Rattle.std.proofs.Common.{ℕ, Bool, sym, ap, ◌∙◌, subst}
 use Rattle.table.specs.Terms.{byte_sum}
 use Rattle.table.specs.Filling.{Within}
-use Rattle.table.proofs.Terms.{terminal_sum_is, last_sum_is, convolved_is}
+use Rattle.table.proofs.Terms.{last_sum_is}
 use Rattle.table.proofs.sums.suffix_sum.Goals as goal
 
 pub returns-then-empty : goal.returns-then-empty

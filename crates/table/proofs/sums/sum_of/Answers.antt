@@ -1,4 +1,4 @@
-use Rattle.std.proofs.Common.{◌≡◌, subst, le_refl, arith}
+use Rattle.std.proofs.Common.{subst, le_refl, arith}
 use Rattle.table.specs.Layouts.{TermsRow}
 use Rattle.table.specs.declared.sums.Terms.{Terms}
 use Rattle.table.proofs.Rows.{rows_few, cell_inside, nonterminal_row}

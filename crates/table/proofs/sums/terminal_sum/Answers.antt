@@ -1,7 +1,7 @@
-use Rattle.std.proofs.Common.{◌≡◌, ℕ, ◌-◌, sym, refl, ap, ◌∙◌, subst, arith, lit<}
-use Rattle.std.proofs.lemmas.Bool.{eq-eqb, ne_eqb}
+use Rattle.std.proofs.Common.{◌≡◌, ℕ, ◌-◌, ap, ◌∙◌, subst, arith, lit<}
+use Rattle.std.proofs.lemmas.Bool.{ne_eqb}
 use Rattle.theory.specs.Count.{one_at, sum_splits}
-use Rattle.table.specs.Terms.{rest_count, byte_sum}
+use Rattle.table.specs.Terms.{rest_count}
 use Rattle.table.specs.Filling.{Within}
 use Rattle.table.proofs.Terms.{terminal_none, terminal_alone, terminal_before, known_sum}
 use Rattle.table.proofs.sums.terminal_sum.Goals as goal

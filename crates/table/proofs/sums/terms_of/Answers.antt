@@ -1,4 +1,4 @@
-use Rattle.std.proofs.Common.{◌≡◌, sym, refl, ap, ◌∙◌, subst, arith}
+use Rattle.std.proofs.Common.{subst, arith}
 use Rattle.table.specs.Rows.{RowOf}
 use Rattle.table.specs.declared.Row.{Row}
 use Rattle.table.proofs.Sides.{no_byte, side_six}

@@ -62,7 +62,7 @@ fn one_byte(words: Words) -> Option<u8>
 fn next_of(word: &[u8]) -> Option<NextWord>
     ensures { MatchOption result ((x : NextWord) → Writes (next_argument x) word.now → ⊥) (λ x. Writes (next_argument x) word.now) }
 {
-    if word == b"end" {
+    if word == b"end".as_slice() {
         return Some(NextWord::End);
     }
     let terminal = number_up_to(word, BYTE)?;

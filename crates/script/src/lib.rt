@@ -165,6 +165,7 @@ fn before_last(text: &[u8], byte: u8) -> Option<&[u8]>
 }
 
 /// A line without its line end: one LF, or one CR LF, is taken off at the end. Any other CR stays.
+#[tactic(auto, using(crate::proofs::LineEnds::before_cr_lf))]
 pub fn without_line_end(line: &[u8]) -> &[u8]
     ensures { LineEndOff line.now result.now }
 {
@@ -205,13 +206,13 @@ mod tests {
 
     #[test]
     fn line_ends(rt: HostRuntime) {
-        assert!(rt; without_line_end(b"count\n") == b"count");
-        assert!(rt; without_line_end(b"count\r\n") == b"count");
-        assert!(rt; without_line_end(b"count") == b"count");
-        assert!(rt; without_line_end(b"count\r") == b"count\r");
-        assert!(rt; without_line_end(b"\r\r\n\n") == b"\r\r\n");
-        assert!(rt; without_line_end(b"\n") == b"");
-        assert!(rt; without_line_end(b"") == b"");
+        assert!(rt; without_line_end(b"count\n") == b"count".as_slice());
+        assert!(rt; without_line_end(b"count\r\n") == b"count".as_slice());
+        assert!(rt; without_line_end(b"count") == b"count".as_slice());
+        assert!(rt; without_line_end(b"count\r") == b"count\r".as_slice());
+        assert!(rt; without_line_end(b"\r\r\n\n") == b"\r\r\n".as_slice());
+        assert!(rt; without_line_end(b"\n") == b"".as_slice());
+        assert!(rt; without_line_end(b"") == b"".as_slice());
     }
 
     #[test]

@@ -2,16 +2,16 @@ use Rattle.std.proofs.Common.{arith, below_more, false-eqb}
 use Rattle.script.proofs.Decimal.{again, too_large, finished}
 use Rattle.script.proofs.number.number.Goals as goal
 
-pub returns-in-err-value : goal.returns-in-err-value
-returns-in-err-value c =
-    rw c.from-residual.ensures (too_large c.args.word.now c.loop-byte.byte-index c.loop-byte.value c.loop-byte-test.true c.loop-byte.invariant.1 c.in-err-value.ensures)
+pub returns-in_err-value : goal.returns-in_err-value
+returns-in_err-value c =
+    rw c.from_residual.ensures (too_large c.args.word.now c.loop-byte.byte-index c.loop-byte.value c.loop-byte-test.true c.loop-byte.invariant.1 c.in_err-value.ensures)
 
 pub loop-byte-preserved : goal.loop-byte-preserved
 loop-byte-preserved c = (
-  below_more _ _ c.loop-byte.invariant.0 c.in-ok-value.ensures.0,
-  again c.args.word.now c.loop-byte.byte-index c.loop-byte.value _ c.loop-byte-test.true c.loop-byte.invariant.1 c.in-ok-value.ensures.1,
+  below_more _ _ c.loop-byte.invariant.0 c.in_ok-value.ensures.0,
+  again c.args.word.now c.loop-byte.byte-index c.loop-byte.value _ c.loop-byte-test.true c.loop-byte.invariant.1 c.in_ok-value.ensures.1,
 )
 
 pub returns : goal.returns
 returns c =
-    finished c.args.word.now c.loop-byte.byte-index _ (omega (arith, false-eqb _ _ c.if-is-empty.ensures)) c.loop-byte-test.false c.loop-byte.invariant.0 c.loop-byte.invariant.1
+    finished c.args.word.now c.loop-byte.byte-index _ (omega (arith, false-eqb _ _ c.if-is_empty.ensures)) c.loop-byte-test.false c.loop-byte.invariant.0 c.loop-byte.invariant.1

@@ -17,7 +17,7 @@ pub(crate) fn ask<P: Grammar>(
     cells: &mut [u64],
     command: Command,
 ) -> Result<Option<Answer>, AllocError>
-    ensures answer { IfOk result (λ o. MatchOption o (IsSetting command × (cells.new ≡ cells.old)) (Asks (meaning pile.now) (chosen pile.now) (levels pile.now) bound cells.old cells.new command)) }
+    ensures answer { IfOk result (λ o. MatchOption o (IsSetting command × (cells.new ≡ cells.old)) (Asks (P.meaning pile.now) (P.chosen pile.now) (P.levels pile.now) bound cells.old cells.new command)) }
     ensures answered { (Allocates command → ⊥) → is_ok result ≡ true }
 {
     match command {

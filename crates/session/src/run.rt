@@ -124,7 +124,7 @@ impl Session<Brackets> {
             command,
         )? {
             Some(answer) => Ok((self, answer)),
-            None => unreachable(),
+            None => unreachable!(),
         }
     }
 

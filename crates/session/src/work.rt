@@ -14,7 +14,7 @@ use table::{Table, needed_cells};
 
 /// The pile's choice for a nonterminal and what comes next.
 pub(crate) fn choice<P: Grammar>(pile: &P, nonterminal: u8, next: NextWord) -> Answer
-    ensures { result ≡ slot_answer (chosen pile.now nonterminal (word_next next)) }
+    ensures { result ≡ slot_answer (P.chosen pile.now nonterminal (word_next next)) }
 {
     let next = match next {
         NextWord::Terminal(t) => Lookahead::Token(t),
@@ -28,14 +28,14 @@ pub(crate) fn choice<P: Grammar>(pile: &P, nonterminal: u8, next: NextWord) -> A
 
 /// The pile's level of a nonterminal.
 pub(crate) fn level<P: Grammar>(pile: &P, nonterminal: u8) -> Answer
-    ensures { result ≡ Answer.Level (levels pile.now nonterminal) }
+    ensures { result ≡ Answer.Level (P.levels pile.now nonterminal) }
 {
     Answer::Level(pile.level(nonterminal))
 }
 
 /// Counts the pile's table for a bound in these cells.
 pub(crate) fn count<P: Grammar>(pile: &P, bound: usize, cells: &mut [u64]) -> Answer
-    ensures { CountReply (meaning pile.now) bound cells.old cells.new result }
+    ensures { CountReply (P.meaning pile.now) bound cells.old cells.new result }
 {
     match table::count(pile, Table { cells, bound }) {
         Ok(()) => Answer::Counted,
@@ -45,7 +45,7 @@ pub(crate) fn count<P: Grammar>(pile: &P, bound: usize, cells: &mut [u64]) -> An
 
 /// Checks the pile's table for a bound in these cells.
 pub(crate) fn check<P: Grammar>(pile: &P, bound: usize, cells: &mut [u64]) -> Answer
-    ensures answer { CheckReply (meaning pile.now) bound cells.old result }
+    ensures answer { CheckReply (P.meaning pile.now) bound cells.old result }
     ensures cells { cells.new ≡ cells.old }
 {
     let table = Table { cells, bound };
@@ -57,7 +57,7 @@ pub(crate) fn check<P: Grammar>(pile: &P, bound: usize, cells: &mut [u64]) -> An
 
 // How many cells the pile's table for a bound needs, if these are enough.
 fn needed_for<P: Grammar>(pile: &P, bound: usize, cells: &mut [u64]) -> Result<usize, Fault>
-    ensures answer { MatchResult result (λ n. Room (meaning pile.now) bound cells.old × (n ≡ needed (meaning pile.now) bound)) (NoRoom (meaning pile.now) bound (length cells.old)) }
+    ensures answer { MatchResult result (λ n. Room (P.meaning pile.now) bound cells.old × (n ≡ needed (P.meaning pile.now) bound)) (NoRoom (P.meaning pile.now) bound (length cells.old)) }
     ensures cells { cells.new ≡ cells.old }
 {
     needed_cells(pile, &Table { cells, bound })
@@ -70,7 +70,7 @@ pub(crate) fn show_table<P: Grammar>(
     bound: usize,
     cells: &mut [u64],
 ) -> Result<Answer, AllocError>
-    ensures answer { IfOk result (TableReply (meaning pile.now) bound cells.old) }
+    ensures answer { IfOk result (TableReply (P.meaning pile.now) bound cells.old) }
     ensures cells { cells.new ≡ cells.old }
 {
     match needed_for(pile, bound, cells) {

@@ -15,10 +15,10 @@ returns-in-Count g c = record { answer = asks_as c.in-Count.is refl (count c.cou
 pub returns-in-Check : goal.returns-in-Check
 returns-in-Check g c = record { answer = asks_as c.in-Check.is refl (check c.check.result c.check.ensures.answer c.check.ensures.cells); answered = λ h. refl }
 
-pub returns-in-ok-show-table : goal.returns-in-ok-show-table
-returns-in-ok-show-table g c =
-    let h = c.in-ok-show-table.ensures in
-    record { answer = asks_as c.in-Table.is refl (table c.in-ok-show-table.field-0 h.answer h.cells); answered = λ h. refl }
+pub returns-in_ok-show_table-in-Table : goal.returns-in_ok-show_table-in-Table
+returns-in_ok-show_table-in-Table g c =
+    let h = c.in_ok-show_table-in-Table.ensures in
+    record { answer = asks_as c.in-Table.is refl (table c.in_ok-show_table-in-Table.field-0 h.answer h.cells); answered = λ h. refl }
 
 pub returns-in-Cell : goal.returns-in-Cell
 returns-in-Cell g c = record { answer = asks_as c.in-Cell.is c.cell.ensures (cell c.in-Cell.cell refl); answered = λ h. refl }

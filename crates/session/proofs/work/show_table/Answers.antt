@@ -8,14 +8,14 @@ front items after cells k n e f h =
     let d : k - 0 ≡ n = omega arith in
     e ∙ ap {B = List ℕ} (λ (x : ℕ). take x after) d ∙ ap {B = List ℕ} (λ (l : List ℕ). take n l) f
 
-pub returns-in-ok-to-vec : goal.returns-in-ok-to-vec
-returns-in-ok-to-vec g c =
+pub returns-in_ok-to_vec-in-Ok : goal.returns-in_ok-to_vec-in-Ok
+returns-in_ok-to_vec-in-Ok g c =
     let h = c.in-Ok.ensures.answer in
-    let v = c.in-ok-to-vec.ensures.items-if-clones-equal (λ x y e. e) in
+    let v = c.in_ok-to_vec-in-Ok.ensures.items_if_clones_equal (λ x y e. e) in
     record {
-      answer = shown c.in-ok-to-vec.field-0 h.0 (front _ _ _ _ _ v c.needed-for.ensures.cells h.1);
-      cells = c.needed-for.ensures.cells;
+      answer = shown c.in_ok-to_vec-in-Ok.field-0 h.0 (front _ _ _ _ _ v c.needed_for.ensures.cells h.1);
+      cells = c.needed_for.ensures.cells;
     }
 
 pub returns-in-Err : goal.returns-in-Err
-returns-in-Err g c = record { answer = refused c.in-Err.fault c.in-Err.ensures.answer; cells = c.needed-for.ensures.cells }
+returns-in-Err g c = record { answer = refused c.in-Err.fault c.in-Err.ensures.answer; cells = c.needed_for.ensures.cells }

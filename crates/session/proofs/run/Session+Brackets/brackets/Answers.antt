@@ -6,5 +6,5 @@ use Rattle.session.proofs.run.Session+Brackets.brackets.Goals as goal
 
 pub returns : goal.returns
 returns c =
-    let h = c.set-kinds-result.ensures in
+    let h = c.set_kinds-result.ensures in
     answers_as (c.settled.ensures ∙ ap setting_answer h.answer) (runs.brackets c.args.kinds h.kinds h.mask h.start (record { cells = refl; amounts = record { stack = refl; output = refl; bound = refl } }))

@@ -3,4 +3,4 @@ use Rattle.session.specs.Runs as runs
 use Rattle.session.proofs.run.Session+Brackets.lend.Goals as goal
 
 pub returns : goal.returns
-returns c = runs.memory c.args.cells c.args.stack c.args.output (record { kinds = refl; mask = refl; start = refl }) c.in-ok-self.ensures refl refl refl
+returns c = runs.memory c.args.cells c.args.stack c.args.output (record { kinds = refl; mask = refl; start = refl }) c.in_ok-self.ensures refl refl refl

@@ -10,7 +10,7 @@ returns c =
     record {
       answer =
           runs.asks c.args.command c.in-Some.answer (record { kinds = refl; mask = refl; start = refl }) (record { stack = refl; output = refl; bound = refl })
-          (cells_as (sym c.as-mut-slice.ensures.value) (with_items_is c.args.self.cells c.ask.new.cells (omega arith))
-          (MatchOption-at_some _ _ c.in-Some.answer c.in-Some.is c.in-ok-answer.ensures.answer));
+          (cells_as (sym c.as_mut_slice.ensures.value) (with_items_is c.args.self.cells c.ask.new.cells (omega arith))
+          (MatchOption-at_some _ _ c.in-Some.answer c.in-Some.is c.in_ok-answer.ensures.answer));
       answered = λ h. refl;
     }

@@ -5,7 +5,7 @@ use Rattle.theory.specs.Sets.{Next}
 use Rattle.script.specs.declared.Command.{Command}
 use Rattle.brackets.specs.declared.Brackets.{Brackets}
 use Rattle.restriction.specs.declared.Restriction.{Restriction}
-use Rattle.session.specs.Runs.{Asks, Runs, IsSetting}
+use Rattle.session.specs.Runs.{Asks, Runs}
 use Rattle.session.specs.declared.answer.Answer.{Answer}
 use Rattle.session.specs.declared.state.Session.{Session}
 

@@ -10,7 +10,7 @@ use Rattle.table.specs.Rows.{needed, Room}
 use Rattle.table.specs.Counts.{SoundTable}
 use Rattle.table.specs.Calls as calls
 use Rattle.session.specs.declared.answer.Answer.{Answer}
-use Rattle.session.specs.declared.answer.Answer.TheVariants.{Done, Counted, Sound, Slot, NoSlot, Level, Table, Cell, NoSuchCell, Refused, Unreadable}
+use Rattle.session.specs.declared.answer.Answer.TheVariants.{Done, Counted, Sound, Slot, NoSlot, Table, Cell, NoSuchCell, Refused}
 
 -- what the word after a nonterminal stands for
 abbrev pub word_next : NextWord → Next

@@ -1,4 +1,3 @@
-use Rattle.std.proofs.Common.{rules}
 use Rattle.session.proofs.answer.Answer.text.Goals as goal
 
 pub returns-in-NoSuchCell : goal.returns-in-NoSuchCell

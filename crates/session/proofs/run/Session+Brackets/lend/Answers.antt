@@ -1,4 +1,4 @@
-use Rattle.std.proofs.Common.{◌≡◌, refl}
+use Rattle.std.proofs.Common.{refl}
 use Rattle.session.specs.Runs as runs
 use Rattle.session.proofs.run.Session+Brackets.lend.Goals as goal
 

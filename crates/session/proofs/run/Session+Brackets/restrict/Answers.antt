@@ -1,4 +1,4 @@
-use Rattle.std.proofs.Common.{◌≡◌, refl, ap}
+use Rattle.std.proofs.Common.{refl, ap}
 use Rattle.brackets.specs.declared.Brackets.{Brackets}
 use Rattle.session.specs.Runs as runs
 use Rattle.session.proofs.Casts.{answers_as}

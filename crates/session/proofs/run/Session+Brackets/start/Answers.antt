@@ -1,5 +1,4 @@
-use Rattle.std.proofs.Common.{◌≡◌, refl, ap, ◌∙◌}
-use Rattle.brackets.specs.declared.Brackets.{Brackets}
+use Rattle.std.proofs.Common.{refl, ap, ◌∙◌}
 use Rattle.session.specs.Runs as runs
 use Rattle.session.specs.Runs.{setting_answer}
 use Rattle.session.proofs.Casts.{answers_as, below_kinds, below_mask}

@@ -1,11 +1,12 @@
 #!/usr/bin/env python3
-"""Brings the repository's own definitions, lemmas, fields and constructors to one spelling: types in upper camel case, all else in snake case; an acronym is one word.
+"""Brings the repository's own definitions, lemmas, fields and constructors to one spelling: types in upper camel case, all else in snake case, an acronym as one word.
 
-usage: python3 tools/respell.py [--check]      at the top of a repository that port.py has turned, once
+usage: python3 tools/respell.py [--check]      once, at the top of a repository that the kit's port.py has turned
 
 A name is the repository's own if a file of specs/ or proofs/ declares it. Names that the library or the check makes keep their spelling:
-those that a file imports from another crate than the repository's, those behind `goal.`, `c.`, `l.` and `g.`, and the answers themselves.
-Functions of src/, strings, inputs and outputs are not touched. It stops where two names would fall together. --check only lists what it would do.
+those that a file imports from elsewhere than the repository's crates, those behind `goal.`, `c.`, `l.` and `g.` in answers, and the answers themselves.
+Functions of src/, strings, inputs and outputs are not touched. It names each two names that would fall together.
+--check only lists the names, old and new. Names in backquotes on the pages of docs/ and in the README follow.
 """
 
 import os
@@ -55,7 +56,7 @@ def respelled(name):
     return "_".join(words)
 
 
-def own_names(root, crates):
+def own_names(root):
     own = set()
     for path in texts(root):
         if not path.endswith(".antt"):
@@ -115,7 +116,7 @@ def turn_page(text, table):
 def main(argv):
     root = os.getcwd()
     crates = set(os.listdir(os.path.join(root, "crates")))
-    own = own_names(root, crates)
+    own = own_names(root)
     table = {n: respelled(n) for n in own}
     table |= {"CFG": "Cfg", "LL1": "Ll1", "Sound-prop": "sound_prop"}
     taken, clash = {}, []

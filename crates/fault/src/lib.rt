@@ -4,43 +4,43 @@
 
 ghost use Rattle.std.specs.Prelude.{◌≡◌, Some, Decides};
 ghost use Rattle.fault.specs.Faults.{fault_number, fault_stage, stage_number, memory_place, fault_place, same_fault, fault_text, NumberAndPlaceIdentify};
-ghost use Rattle.fault.specs.Equality.{same_fault_equivalence, same_fault_partial_equivalence};
 
+use std::error::Error;
 use std::fmt;
 
 /// Where a fault comes from.
 #[derive(Clone, Copy, PartialEq, Eq, Debug)]
 pub enum Stage {
     /// Reading a grammar file.
-    File,
+    File = 1,
     /// Judging the grammar that was read.
-    Grammar,
+    Grammar = 2,
     /// Judging or using a spelling.
-    Spelling,
+    Spelling = 3,
     /// Counting, and the memory that a call is lent.
-    Table,
+    Table = 4,
     /// A sentence, or the number of one.
-    Sentence,
+    Sentence = 5,
     /// The setting of a grammar or of a layer.
-    Layer,
+    Layer = 6,
     /// A tour, which gives out the sentences of one length one by one, and its slip: the token that opening gives with a
     /// tour and closing takes back. Both come with a later delivery.
-    Tour,
+    Tour = 7,
 }
 
 /// A memory that a call is lent.
 #[derive(Clone, Copy, PartialEq, Eq, Debug)]
 pub enum Memory {
     /// The cells of the table.
-    Cells,
+    Cells = 1,
     /// The working stack.
-    Stack,
+    Stack = 2,
     /// What the result is written to.
-    Output,
+    Output = 3,
 }
 
 /// A refusal, with its place.
-#[derive(Clone, Copy, Debug)]
+#[derive(Clone, Copy, PartialEq, Eq, Debug)]
 pub enum Fault {
     /// The file ends before a byte that its record needs; at the offset where that record begins.
     MissingByte(u64),
@@ -84,15 +84,7 @@ impl Stage {
     pub fn number(self) -> u8
         ensures { result ≡ stage_number self }
     {
-        match self {
-            Stage::File => 1,
-            Stage::Grammar => 2,
-            Stage::Spelling => 3,
-            Stage::Table => 4,
-            Stage::Sentence => 5,
-            Stage::Layer => 6,
-            Stage::Tour => 7,
-        }
+        self as u8
     }
 }
 
@@ -101,16 +93,13 @@ impl Memory {
     pub fn place(self) -> u64
         ensures { result ≡ memory_place self }
     {
-        match self {
-            Memory::Cells => 1,
-            Memory::Stack => 2,
-            Memory::Output => 3,
-        }
+        self as u64
     }
 }
 
 impl Fault {
     /// The number of the fault, 1 to 17.
+    // A match, here and in `stage` and `place`: a case that holds a place has no discriminant to cast.
     pub fn number(self) -> u8
         ensures { result ≡ fault_number self }
     {
@@ -183,29 +172,12 @@ impl Fault {
     }
 }
 
-// Whether two faults have one number and one place.
-fn same(x: Fault, y: Fault) -> bool
-    ensures { result ≡ same_fault x y }
+/// Whether two faults are one: the derived `==`, which is so exactly where number and place agree.
+pub fn same(x: &Fault, y: &Fault) -> bool
+    ensures computes { result ≡ same_fault x.now y.now }
+    ensures decides { Decides result (x.now ≡ y.now) }
 {
-    x.number() == y.number() && x.place() == y.place()
-}
-
-// The derived `==` would compare case by case; this one compares number and place, which decide equality.
-impl PartialEq for Fault {
-    ghost eq = { same_fault };
-
-    ghost laws = { same_fault_partial_equivalence };
-
-    fn eq(&self, other: &Fault) -> bool
-        ensures computes { result ≡ same_fault self.now other.now }
-        ensures decides { Decides result (self.now ≡ other.now) }
-    {
-        same(*self, *other)
-    }
-}
-
-impl Eq for Fault {
-    ghost laws = { same_fault_equivalence };
+    x == y
 }
 
 /// A fault is known by its number and its place.
@@ -223,3 +195,5 @@ impl fmt::Display for Fault {
         write!(f, "fault {number} stage {stage} place {place}")
     }
 }
+
+impl Error for Fault {}

@@ -2,10 +2,11 @@
 
 #![tactic(auto)]
 
-ghost use Rattle.std.specs.Prelude.{◌≡◌, ◌+◌, ◌<◌, ◌≤◌, length, slice_index_or, slice_set};
-ghost use Rattle.stack.specs.Held.{held, first_of, Pushed, Popped};
+ghost use Rattle.std.specs.Prelude.{◌≡◌, ◌≤◌, length};
 
 /// A stack: the first `depth` entries, the last of them on top.
+// No model: it would hide the entries past the depth, and that the lent slice is still this one.
+// Entries with a depth beside them, since a flight kit has no heap.
 #[derive(Drop)]
 pub struct Stack<'a, T> {
     entries: &'a mut [T],
@@ -13,15 +14,9 @@ pub struct Stack<'a, T> {
     ghost inside: { depth ≤ length entries.now },
 }
 
-// The entry `i`.
-fn entry<T: Copy>(entries: &[T], i: usize) -> T
-    requires { i < length entries.now }
-    ensures { result ≡ slice_index_or entries.now i result }
-{
-    entries[i]
-}
-
 impl<'a, T: Copy> Stack<'a, T> {
+    ghost use Rattle.stack.specs.Held.{held, first_of, Pushed, Popped};
+
     /// An empty stack over `entries`.
     pub fn over(entries: &'a mut [T]) -> Stack<'a, T>
         ensures empty { result.depth ≡ 0 }
@@ -31,61 +26,31 @@ impl<'a, T: Copy> Stack<'a, T> {
         Stack { entries, depth: 0 }
     }
 
-    // Writes `x` into the first entry that is free, and counts it.
-    fn put(&mut self, x: T)
-        requires { self.old.depth < length self.old.entries.now }
-        ensures entries { self.new.entries.now ≡ slice_set self.old.entries.now self.old.depth x }
-        ensures deeper { self.new.depth ≡ self.old.depth + 1 }
-        ensures same { self.new.entries.ghost_name ≡ self.old.entries.ghost_name }
+    /// Puts `x` on top; hands it back where every entry is taken, and then nothing changes.
+    pub fn push(&mut self, x: T) -> Result<(), T>
+        ensures { Pushed x self.old self.new result }
     {
-        let at = self.depth;
-        self.entries[at] = x;
-        self.depth = at + 1;
-    }
-
-    // The last entry that is taken, which is free from now on.
-    fn take(&mut self) -> T
-        requires { 0 < self.old.depth }
-        ensures entries { self.new.entries.now ≡ self.old.entries.now }
-        ensures deeper { self.old.depth ≡ self.new.depth + 1 }
-        ensures same { self.new.entries.ghost_name ≡ self.old.entries.ghost_name }
-        ensures last { result ≡ slice_index_or self.old.entries.now self.new.depth result }
-    {
-        let at = self.depth - 1;
-        self.depth = at;
-        self.entries[at]
-    }
-
-    /// Puts `x` on top; false where every entry is taken, and then nothing changes.
-    pub fn push(&mut self, x: T) -> bool
-        ensures pushed { Pushed x self.old.entries.now self.old.depth self.new.entries.now self.new.depth result }
-        ensures same { self.new.entries.ghost_name ≡ self.old.entries.ghost_name }
-    {
-        if self.depth >= self.entries.len() {
-            return false;
+        if self.depth == self.entries.len() {
+            return Err(x);
         }
-        self.put(x);
-        true
+        self.entries[self.depth] = x;
+        self.depth += 1;
+        Ok(())
     }
 
     /// Takes the top off; none if the stack is empty. The entries stay as they are.
     pub fn pop(&mut self) -> Option<T>
-        ensures popped { Popped self.old.entries.now self.old.depth self.new.entries.now self.new.depth result }
-        ensures same { self.new.entries.ghost_name ≡ self.old.entries.ghost_name }
+        ensures { Popped self.old self.new result }
     {
-        if self.depth == 0 {
-            return None;
-        }
-        Some(self.take())
+        let depth = self.depth.checked_sub(1)?;
+        self.depth = depth;
+        Some(self.entries[depth])
     }
 
     /// The top; none if the stack is empty.
     pub fn top(&self) -> Option<T>
-        ensures { result ≡ first_of (held self.now.entries.now self.now.depth) }
+        ensures { result ≡ first_of (held self.now) }
     {
-        match self.depth {
-            0 => None,
-            depth => Some(entry(&*self.entries, depth - 1)),
-        }
+        self.entries[..self.depth].last().copied()
     }
 }

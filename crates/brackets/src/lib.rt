@@ -8,7 +8,7 @@ ghost use Rattle.brackets.specs.Laws.{SentencesAreBrackets};
 ghost use Rattle.brackets.specs.Facts.{bracket_implements};
 
 use fault::Fault;
-use grammar::{Grammar, Lookahead};
+use grammar::Grammar;
 
 /// Well-nested brackets of k kinds: terminal i below k opens kind i, terminal k + i closes it.
 #[derive(Clone, Copy)]
@@ -37,7 +37,7 @@ impl Brackets {
         ensures answer { result ≡ kinds_answer kinds }
         ensures holds { self.new.kinds ≡ (if kinds_allowed kinds then kinds else self.old.kinds) }
     {
-        if 1 <= kinds && kinds <= 16 {
+        if matches!(kinds, 1..=16) {
             *self = Brackets { kinds };
             Ok(())
         } else {
@@ -72,7 +72,7 @@ impl Grammar for Brackets {
     }
 
     fn left(&self, slot: u8) -> Option<u8> {
-        if slot <= self.kinds { Some(0) } else { None }
+        (slot <= self.kinds).then_some(0)
     }
 
     fn length(&self, slot: u8) -> u8 {
@@ -80,15 +80,11 @@ impl Grammar for Brackets {
     }
 
     fn symbol(&self, slot: u8, position: u8) -> Option<u8> {
-        if slot < self.kinds {
-            match position {
-                0 => Some(slot),
-                1 | 3 => Some(128),
-                2 => Some(self.kinds + slot),
-                _ => None,
-            }
-        } else {
-            None
+        match position {
+            0 if slot < self.kinds => Some(slot),
+            1 | 3 if slot < self.kinds => Some(128),
+            2 if slot < self.kinds => Some(self.kinds + slot),
+            _ => None,
         }
     }
 
@@ -96,21 +92,12 @@ impl Grammar for Brackets {
         0
     }
 
-    fn choice(&self, a: u8, next: Lookahead) -> Option<u8> {
-        if a != 0 {
-            return None;
-        }
-        match next {
-            Lookahead::End => Some(self.kinds),
-            Lookahead::Token(t) => {
-                if t < self.kinds {
-                    Some(t)
-                } else if t < 2 * self.kinds {
-                    Some(self.kinds)
-                } else {
-                    None
-                }
-            }
+    fn choice(&self, a: u8, next: Option<u8>) -> Option<u8> {
+        match (a, next) {
+            (0, Some(t)) if t < self.kinds => Some(t),
+            (0, Some(t)) if t < 2 * self.kinds => Some(self.kinds),
+            (0, None) => Some(self.kinds),
+            _ => None,
         }
     }
 }

@@ -1,3 +1,4 @@
 pub mod Derived
 pub mod Unique
 pub mod Smaller
+pub mod Symbols

@@ -4,8 +4,6 @@ use Rattle.theory.specs.Grammar.{Symbol, terminal, nonterminal, Cfg, RuleAt}
 use Rattle.theory.specs.Sets.{Next, token, end, Predict}
 use Rattle.theory.specs.Sound.{Limits, Sound, Levels}
 use Rattle.theory.specs.Count.{left_of, right_of}
-use Rattle.grammar.specs.declared.Lookahead.{Lookahead}
-use Rattle.grammar.specs.declared.Lookahead.TheVariants.{Token, End}
 
 -- the byte of a symbol: t for terminal t, 128 + A for nonterminal A
 abbrev pub byte_of : Symbol → ℕ
@@ -18,10 +16,10 @@ byte_at [] i = None
 byte_at (X ∷ Xs) zero = Some (byte_of X)
 byte_at (X ∷ Xs) (suc i) = byte_at Xs i
 
--- what a lookahead stands for
-abbrev pub next_of_lookahead : Lookahead → Next
-next_of_lookahead (Token t) = token t
-next_of_lookahead End = end
+-- what a lookahead stands for: a terminal, or the end where there is none
+abbrev pub next_of_lookahead : Option ℕ → Next
+next_of_lookahead (Some t) = token t
+next_of_lookahead None = end
 
 -- what the choice for a nonterminal and what comes next owes: it is a filled slot of that nonterminal, or none;
 -- it finds the slot whose predict set has what comes next; it is none at what is no terminal

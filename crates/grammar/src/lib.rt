@@ -8,12 +8,26 @@ ghost use Rattle.theory.specs.Sets.{Next};
 ghost use Rattle.theory.specs.Sound.{Limits, Sound, Ll1};
 ghost use Rattle.theory.specs.Count.{left_of, right_of};
 ghost use Rattle.grammar.specs.Interface.{byte_at, next_of_lookahead, Implements, OutsideIsNone};
+ghost use Rattle.grammar.specs.Symbols.{symbol_of_byte, symbol_at};
 
-/// What comes next in an input: a terminal, or the end.
-#[derive(Clone, Copy)]
-pub enum Lookahead {
-    Token(u8),
-    End,
+/// A symbol of a right-hand side.
+#[derive(Clone, Copy, PartialEq, Eq, Debug)]
+pub enum Symbol {
+    Terminal(u8),
+    Nonterminal(u8),
+}
+
+/// The symbol of a byte: t for terminal t, 128 + A for nonterminal A.
+impl From<u8> for Symbol {
+    ghost from_gives = { λ b s. s ≡ symbol_of_byte b };
+
+    fn from(byte: u8) -> Symbol {
+        if byte < 128 {
+            Symbol::Terminal(byte)
+        } else {
+            Symbol::Nonterminal(byte - 128)
+        }
+    }
 }
 
 /// A sound grammar with a choice of slots and a level for each nonterminal.
@@ -55,6 +69,7 @@ pub trait Grammar {
 
     /// The byte of the symbol at a position of a slot's right-hand side: t for terminal t, 128 + A for nonterminal A.
     /// None past the end, if the slot is empty and if there is no such slot.
+    // A byte and no `Symbol`: the interface of grammars answers bytes; `symbol_at` answers the symbol.
     fn symbol(&self, slot: u8, position: u8) -> Option<u8>
         ensures { result ≡ byte_at (right_of ((meaning self.now).slot slot)) position };
 
@@ -62,9 +77,16 @@ pub trait Grammar {
     fn level(&self, a: u8) -> u8
         ensures { result ≡ levels self.now a };
 
-    /// The slot chosen for a nonterminal and what comes next; none also if there is no such nonterminal or no such terminal.
-    fn choice(&self, a: u8, next: Lookahead) -> Option<u8>
+    /// The slot chosen for a nonterminal and what comes next, a terminal or none at the end of the input; none also if there is no such nonterminal or no such terminal.
+    fn choice(&self, a: u8, next: Option<u8>) -> Option<u8>
         ensures { result ≡ chosen self.now a (next_of_lookahead next) };
+
+    /// The symbol at a position of a slot's right-hand side. None past the end, if the slot is empty and if there is no such slot.
+    final fn symbol_at(&self, slot: u8, position: u8) -> Option<Symbol>
+        ensures { result ≡ symbol_at (right_of ((meaning self.now).slot slot)) position }
+    {
+        self.symbol(slot, position).map(Symbol::from)
+    }
 
     /// The grammar keeps the limits and is sound, and choice and levels are as they should be.
     ghost implements: { (s : Self) → Implements (meaning s) (chosen s) (levels s) };

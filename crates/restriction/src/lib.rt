@@ -3,13 +3,15 @@
 #![tactic(auto)]
 
 ghost use Rattle.std.specs.Prelude.{◌≡◌};
+ghost use Rattle.std.specs.Borrow.{Lends, sem};
+ghost use Rattle.restriction.specs.contracts.Restriction.{the_row};
 ghost use Rattle.restriction.specs.Masks.{keeps, all_bits, KeepsAll, LowestFrom};
 ghost use Rattle.restriction.specs.Restricted.{kept_slots, kept_choice, MaskSet};
 ghost use Rattle.restriction.specs.Laws.{AllBitsChangeNothing, DerivationsUseKeptSlots};
 ghost use Rattle.restriction.specs.Fewer.{restricted_implements};
 
 use fault::Fault;
-use grammar::{Grammar, Lookahead};
+use grammar::Grammar;
 
 /// The grammar below with only the slots that the mask has a bit for: bit r keeps slot r, other slots are empty, and numbers do not move.
 #[derive(Drop)]
@@ -83,6 +85,14 @@ impl<G> Restriction<G> {
         &self.below
     }
 
+    /// The grammar below, to be changed; the mask stays.
+    pub fn below_mut(&mut self) -> &mut G
+        ensures below { result.now ≡ self.old.below }
+        ensures* writes_back { sem 𝓛 (Lends (the_row G.row) G.row self.entry result (λ g. record self.old { below = g })) }
+    {
+        &mut self.below
+    }
+
     /// Puts another grammar below, and hands the old one back; the mask stays.
     pub fn replace_below<H>(self, below: H) -> (Restriction<H>, G)
         ensures below { result.0.below ≡ below }
@@ -115,6 +125,8 @@ impl<G: Grammar> Restriction<G> {
     }
 }
 
+// The questions that are passed on, and `below`, `below_mut` and `replace_below`, stand in `StartChange` too. One layer over any setting
+// would be longer: it needs a trait with a method and a ghost member for each question that some setting changes.
 impl<G: Grammar> Grammar for Restriction<G> {
     ghost meaning = { λ s. kept_slots (G.Grammar.meaning s.below) s.mask };
 
@@ -168,17 +180,10 @@ impl<G: Grammar> Grammar for Restriction<G> {
         self.below.level(a)
     }
 
-    fn choice(&self, a: u8, next: Lookahead) -> Option<u8> {
-        match self.below.choice(a, next) {
-            Some(chosen) => {
-                if kept(self.mask, chosen) {
-                    Some(chosen)
-                } else {
-                    None
-                }
-            }
-            None => None,
-        }
+    fn choice(&self, a: u8, next: Option<u8>) -> Option<u8> {
+        self.below
+            .choice(a, next)
+            .filter(|slot| kept(self.mask, *slot))
     }
 }
 

@@ -3,12 +3,14 @@
 #![tactic(auto)]
 
 ghost use Rattle.std.specs.Prelude.{◌≡◌, if◌then◌else◌, Some, None, nat_lt};
+ghost use Rattle.std.specs.Borrow.{Lends, sem};
+ghost use Rattle.start_change.specs.contracts.StartChange.{the_row};
 ghost use Rattle.start_change.specs.Started.{with_start, start_answer};
 ghost use Rattle.start_change.specs.Laws.{DerivationsAreThoseBelow, StartIsStoredOrBelow};
 ghost use Rattle.start_change.specs.Implemented.{start_implements};
 
 use fault::Fault;
-use grammar::{Grammar, Lookahead};
+use grammar::Grammar;
 
 /// The grammar below with another start; a stored start that is no nonterminal of the grammar below has no effect, and the start is as below.
 #[derive(Drop)]
@@ -39,6 +41,14 @@ impl<G> StartChange<G> {
         ensures { result.now ≡ self.now.below }
     {
         &self.below
+    }
+
+    /// The grammar below, to be changed; the stored start stays.
+    pub fn below_mut(&mut self) -> &mut G
+        ensures below { result.now ≡ self.old.below }
+        ensures* writes_back { sem 𝓛 (Lends (the_row G.row) G.row self.entry result (λ g. record self.old { below = g })) }
+    {
+        &mut self.below
     }
 
     /// Puts another grammar below, and hands the old one back; the stored start stays.
@@ -73,6 +83,8 @@ impl<G: Grammar> StartChange<G> {
     }
 }
 
+// The questions that are passed on, and `below`, `below_mut` and `replace_below`, stand in `Restriction` too. One layer over any setting
+// would be longer: it needs a trait with a method and a ghost member for each question that some setting changes.
 impl<G: Grammar> Grammar for StartChange<G> {
     ghost meaning = { λ s. with_start (G.Grammar.meaning s.below) s.start };
 
@@ -96,14 +108,8 @@ impl<G: Grammar> Grammar for StartChange<G> {
 
     fn start(&self) -> u8 {
         match self.start {
-            None => self.below.start(),
-            Some(stored) => {
-                if stored < self.below.nonterminals() {
-                    stored
-                } else {
-                    self.below.start()
-                }
-            }
+            Some(stored) if stored < self.below.nonterminals() => stored,
+            _ => self.below.start(),
         }
     }
 
@@ -123,7 +129,7 @@ impl<G: Grammar> Grammar for StartChange<G> {
         self.below.level(a)
     }
 
-    fn choice(&self, a: u8, next: Lookahead) -> Option<u8> {
+    fn choice(&self, a: u8, next: Option<u8>) -> Option<u8> {
         self.below.choice(a, next)
     }
 }

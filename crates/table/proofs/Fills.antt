@@ -1,12 +1,12 @@
 -- What a write of a count leaves, and when the next count is due.
-use Rattle.std.proofs.Common.{◌≡◌, ℕ, ◌+◌, ◌*◌, ◌^◌, ◌<◌, ◌≤◌, Bool, true, false, ◌≢◌, List, get_or, set, sym, refl, ap, ◌∙◌, subst, ⊎_elim, arith, length-set, get_or-set_other, get_or-set_same}
+use Rattle.std.proofs.Common.{◌≡◌, ℕ, ◌+◌, ◌*◌, ◌^◌, ◌<◌, ◌≤◌, ◌≢◌, List, get_or, set, sym, refl, ap, ◌∙◌, subst, ⊎_elim, arith, length-set, get_or-set_other, get_or-set_same}
 use Rattle.std.proofs.lemmas.Bool.{cases_eq}
 use Rattle.theory.specs.Grammar.{Cfg}
-use Rattle.table.specs.Rows.{RowOf, row_number, place, Room}
+use Rattle.table.specs.Rows.{row_number, place, Room}
 use Rattle.table.specs.Equations.{equation}
 use Rattle.table.specs.Counts.{count_of}
 use Rattle.table.specs.Layouts.{Ready, AtRow}
-use Rattle.table.specs.Filling.{Correct, CorrectBelow, ReadyAt, Keeps, UnlessOver, PrefixCorrectOf, Done, AllDone}
+use Rattle.table.specs.Filling.{Correct, CorrectBelow, ReadyAt, Keeps, PrefixCorrectOf, Done}
 use Rattle.table.specs.declared.layout.Layout.{Layout}
 use Rattle.table.specs.declared.Row.{Row}
 use Rattle.table.specs.declared.Row.TheVariants.{Nonterminal, Suffix}
@@ -74,19 +74,7 @@ keeps_done k l i d = record {
   prefixes = λ s o. keeps_prefix k l o (d.prefixes s o);
 }
 
--- the nonterminals of the levels below k, and those of level k up to a, once a is done too
-pub level_more : {G : Cfg} {L : ℕ} {t u : List ℕ} {m : ℕ} (h : ℕ → ℕ) (k a : ℕ) → a < G.nonterminals → m ≤ L → Keeps G L t u → Done G L u m a
-    → ((B : ℕ) → B < G.nonterminals → h B < k → Done G L t m B) → ((B : ℕ) → B < a → h B ≡ k → Done G L t m B)
-    → ((B : ℕ) → B < G.nonterminals → h B < k → Done G L u m B) × ((B : ℕ) → B < a + 1 → h B ≡ k → Done G L u m B)
-level_more {G} {L} {t} {u} {m} h k a i l keeps d lower same = (
-  λ B o e. keeps_done keeps l o (lower B o e),
-  λ B o e. ⊎_elim
-      (λ q. subst (λ (x : ℕ). Done G L u m x) (sym q) d)
-      (λ ne. keeps_done keeps l (omega arith) (same B (omega arith) e))
-      (cases_eq B a),
-)
-
--- and those of level k up to a, where a is of another level
+-- the nonterminals of level k up to a, where a is of another level
 pub level_skip : (D : ℕ → Type 0) (h : ℕ → ℕ) (k a : ℕ) → (h a ≡ k → ⊥) → ((B : ℕ) → B < a → h B ≡ k → D B) → (B : ℕ) → B < a + 1 → h B ≡ k → D B
 level_skip D h k a ne same B o e = ⊎_elim (λ q. absurd (ne (ap h (sym q) ∙ e))) (λ d. same B (omega arith) e) (cases_eq B a)
 
@@ -94,24 +82,3 @@ level_skip D h k a ne same B o e = ⊎_elim (λ q. absurd (ne (ap h (sym q) ∙ 
 pub level_next : {N : ℕ} (D : ℕ → Type 0) (h : ℕ → ℕ) (k : ℕ) → ((B : ℕ) → B < N → h B < k → D B) → ((B : ℕ) → B < N → h B ≡ k → D B)
     → (B : ℕ) → B < N → h B < k + 1 → D B
 level_next D h k lower same B l o = ⊎_elim (same B l) (λ ne. lower B l (omega arith)) (cases_eq (h B) k)
-
-right_row : (G : Cfg) (L : ℕ) (t : List ℕ) (m : ℕ) → AllDone G L t m → ((s q : ℕ) → RowOf G (Suffix s q) → Correct G L t (Suffix s q) m)
-    → (ρ : Row) → RowOf G ρ → Correct G L t ρ m
-right_row G L t m h k (Nonterminal b) l = (h b l).count
-right_row G L t m h k (Suffix s q) l = k s q l
-
--- a length more, once its nonterminals and its suffixes are right
-pub one_more : {G : Cfg} {L : ℕ} {t u v : List ℕ} {m : ℕ} (r : Bool) → m ≤ L → CorrectBelow G L t m → Keeps G L t u → Keeps G L u v → AllDone G L u m
-    → UnlessOver r G m ((s q : ℕ) → RowOf G (Suffix s q) → Correct G L v (Suffix s q) m) → UnlessOver r G m (CorrectBelow G L v (m + 1))
-one_more {G} {L} {t} {u} {v} {m} true l b k j h d = λ ρ n o lt.
-    ⊎_elim
-    (λ e. subst (λ (x : ℕ). Correct G L v ρ x) (sym e) (right_row G L v m (λ c p. keeps_done j l p (h c p)) d ρ o))
-    (λ ne. keeps_below (keeps_on k j) (omega arith) b ρ n o (omega arith))
-    (cases_eq n m)
-one_more false l b k j h d = d
-
--- a nonterminal is done once its prefixes were right and its own count is written
-pub done_more : {G : Cfg} {L : ℕ} {t u : List ℕ} {m A : ℕ} (r : Bool) → m ≤ L → Keeps G L t u → ((s : ℕ) → s < G.slots → PrefixCorrectOf G L t A m s)
-    → UnlessOver r G m (Correct G L u (Nonterminal A) m) → UnlessOver r G m (Done G L u m A)
-done_more true l k h d = record { count = d; prefixes = λ s i. keeps_prefix k l i (h s i) }
-done_more false l k h d = d

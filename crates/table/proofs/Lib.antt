@@ -1,5 +1,6 @@
 pub mod Sides
 pub mod Rows
+pub mod Shown
 pub mod Writes
 pub mod Terms
 pub mod RowTerms
@@ -10,3 +11,4 @@ pub mod Solution
 pub mod Calls
 pub mod RowCells
 pub mod Places
+pub mod Stays

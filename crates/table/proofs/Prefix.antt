@@ -1,6 +1,6 @@
 -- How far a right-hand side is nullable.
-use Rattle.std.proofs.Common.{◌≡◌, ℕ, zero, suc, ◌+◌, ◌-◌, ◌<◌, ◌≤◌, Bool, true, false, ltb, List, [], ◌∷◌, ◌++◌, length, take, drop, Some, sym, refl, ap, ◌∙◌, subst, inl, inr, ⊎_elim, add-one, arith}
-use Rattle.std.proofs.lemmas.Bool.{cases_eq, cases_lt, lt-ltb, le-ltb, ltb-true, ltb-false}
+use Rattle.std.proofs.Common.{◌≡◌, ℕ, zero, suc, ◌+◌, ◌<◌, ◌≤◌, true, false, ltb, List, [], ◌∷◌, ◌++◌, length, take, drop, Some, Ok, Err, Result, sym, refl, ap, ◌∙◌, subst, inl, inr, ⊎_elim, add-one, arith}
+use Rattle.std.proofs.lemmas.Bool.{cases_eq, cases_lt, ltb-true, ltb-false}
 use Rattle.std.proofs.lemmas.List.{take-append-drop, take-take, nil_from_length}
 use Rattle.theory.specs.Lists.{In}
 use Rattle.theory.specs.Grammar.{Symbol, terminal, nonterminal, Slot, empty, rule, Cfg, Derives, done, expand}
@@ -9,12 +9,15 @@ use Rattle.theory.specs.Sound.{Limits, Ll1}
 use Rattle.theory.specs.Count.{left_of, right_of, symbol_count, count}
 use Rattle.theory.proofs.Counting.{nullable_join, is_rule, leads_at, count_nullable}
 use Rattle.theory.proofs.Listing.{computed_count}
-use Rattle.grammar.specs.Interface.{byte_at}
+use Rattle.grammar.specs.Symbols.{value_of, symbol_at}
+use Rattle.grammar.specs.declared.Symbol.{Symbol as Value}
 use Rattle.table.specs.Rows.{cell_at}
-use Rattle.table.specs.Terms.{byte_count}
+use Rattle.table.specs.Terms.{symbol_cell}
 use Rattle.table.specs.Filling.{Correct, CorrectBelow, Keeps, UnlessOver, FirstsCorrect, NeedsNoRest, CornersCorrect, LeadingCorrect, PrefixCorrectOf, AllDone}
+use Rattle.table.specs.declared.filling.TooLarge.{TooLarge}
 use Rattle.table.specs.declared.Row.TheVariants.{Nonterminal, Suffix}
-use Rattle.table.proofs.Sides.{drop_next, symbol_there, take_next, nonterminal_known, symbol_at, is_terminal, is_nonterminal}
+use Rattle.table.proofs.Sides.{drop_next, symbol_there, take_next, nonterminal_known}
+use Rattle.table.proofs.Shown.{shown_at, symbol_cell_is}
 
 nullable_take : {G : Cfg} {Xs : List Symbol} → Nullable G Xs → (q : ℕ) → Nullable G (take q Xs)
 nullable_take none zero = none
@@ -86,52 +89,32 @@ leaders_zero {G} {L} {t} {m} z below s h p B Xs v d =
     (λ ne. below (Nonterminal B) 0 (nonterminal_known z s p B Xs d) (omega arith))
     (cases_eq m 0)
 
-module _ {G : Cfg} (L : ℕ) (t : List ℕ) (z : Limits G) (s p b : ℕ) (before : Nullable G (take p (right_of (G.slot s)))) (leaders : LeadingCorrect G L t (right_of (G.slot s)) 0) (is : Some b ≡ byte_at (right_of (G.slot s)) p) where
-  -- a terminal ends the prefix
-  terminal_ends : b < 128 → NeedsNoRest G (right_of (G.slot s)) p
-  terminal_ends l X Xs d =
-      let i = symbol_at (right_of (G.slot s)) p b is in
-      let k = is_terminal z s p b i l in
-      let q : X ≡ terminal k.0 = cc (i.suffix, d, k.1) in
-      inr (ap (λ (Y : Symbol). symbol_count (count G) Y 0) q)
-
-  -- so does a nonterminal that is not nullable
-  nonterminal_ends : 128 ≤ b → cell_at L t (b - 128) 0 ≡ 0 → NeedsNoRest G (right_of (G.slot s)) p
-  nonterminal_ends l e X Xs d =
-      let i = symbol_at (right_of (G.slot s)) p b is in
-      let k = is_nonterminal z s p b i l in
-      let q : X ≡ nonterminal (b - 128) = cc (i.suffix, d, k.0) in
-      let f = d ∙ ap (λ (Y : Symbol). Y ∷ Xs) q in
-      inr (ap (λ (Y : Symbol). symbol_count (count G) Y 0) q ∙ sym (leaders p (b - 128) Xs before f).is ∙ e)
-
-  -- a nullable one goes on
-  nonterminal_more : 128 ≤ b → 0 < cell_at L t (b - 128) 0 → Nullable G (take (p + 1) (right_of (G.slot s)))
-  nonterminal_more l e =
-      let w = right_of (G.slot s) in
-      let i = symbol_at w p b is in
-      let k = is_nonterminal z s p b i l in
-      let f = i.suffix ∙ ap (λ (Y : Symbol). Y ∷ drop (suc p) w) k.0 in
-      let r = leaders p (b - 128) (drop (suc p) w) before f in
-      subst (λ (u : List Symbol). Nullable G u) (sym (rw add-one (take_next w p (nonterminal (b - 128)) (drop (suc p) w) f)))
-      (nullable_join before (count_nullable G (b - 128) (λ n. omega (arith, r.is))))
-
+module _ {G : Cfg} (L : ℕ) (t : List ℕ) (s p : ℕ) (X : Value) (before : Nullable G (take p (right_of (G.slot s)))) (leaders : LeadingCorrect G L t (right_of (G.slot s)) 0) (is : Some X ≡ symbol_at (right_of (G.slot s)) p) where
   -- what counts nothing at length 0 ends the prefix
-  pub prefix_ends : false ≡ ltb 0 (byte_count L t b 0) → NeedsNoRest G (right_of (G.slot s)) p
-  prefix_ends e =
-      ⊎_elim
-      terminal_ends
-      (λ l. nonterminal_ends l (let f : byte_count L t b 0 ≡ cell_at L t (b - 128) 0 = rw (le-ltb b 128 l) in omega (arith, f, ltb-false 0 (byte_count L t b 0) (sym e))))
-      (cases_lt b 128)
+  pub prefix_ends : false ≡ ltb 0 (symbol_cell L t X 0) → NeedsNoRest G (right_of (G.slot s)) p
+  prefix_ends e Y Ys d =
+      let i = shown_at (right_of (G.slot s)) p X is in
+      let q : i.it ≡ Y = cc (i.suffix, d) in
+      inr (go Y d (omega (arith, ltb-false 0 (symbol_cell L t X 0) (sym e), symbol_cell_is L t X Y (ap value_of (sym q) ∙ i.value) 0)))
+    where
+      go : (Z : Symbol) → drop p (right_of (G.slot s)) ≡ Z ∷ Ys → symbol_count (cell_at L t) Z 0 ≡ 0 → symbol_count (count G) Z 0 ≡ 0
+      go (terminal a) f k = refl
+      go (nonterminal B) f k = sym (leaders p B Ys before f).is ∙ k
 
   -- and what counts something goes on
-  pub prefix_more : true ≡ ltb 0 (byte_count L t b 0) → Nullable G (take (p + 1) (right_of (G.slot s)))
+  pub prefix_more : true ≡ ltb 0 (symbol_cell L t X 0) → Nullable G (take (p + 1) (right_of (G.slot s)))
   prefix_more e =
-      ⊎_elim
-      (λ l. let f : byte_count L t b 0 ≡ 0 = rw (lt-ltb b 128 l) in absurd (omega (arith, f, ltb-true 0 (byte_count L t b 0) (sym e))))
-      (λ l. nonterminal_more l (let f : byte_count L t b 0 ≡ cell_at L t (b - 128) 0 = rw (le-ltb b 128 l) in omega (arith, f, ltb-true 0 (byte_count L t b 0) (sym e))))
-      (cases_lt b 128)
+      let i = shown_at (right_of (G.slot s)) p X is in
+      go i.it i.suffix (omega (arith, ltb-true 0 (symbol_cell L t X 0) (sym e), symbol_cell_is L t X i.it i.value 0))
+    where
+      go : (Z : Symbol) → drop p (right_of (G.slot s)) ≡ Z ∷ drop (suc p) (right_of (G.slot s)) → 0 < symbol_count (cell_at L t) Z 0 → Nullable G (take (p + 1) (right_of (G.slot s)))
+      go (terminal a) f k = absurd (omega arith)
+      go (nonterminal B) f k =
+          let w = right_of (G.slot s) in
+          let r = leaders p B (drop (suc p) w) before f in
+          subst (λ (u : List Symbol). Nullable G u) (sym (rw add-one (take_next w p (nonterminal B) (drop (suc p) w) f)))
+          (nullable_join before (count_nullable G B (λ n. omega (arith, r.is))))
 
--- once every nonterminal is done, the nonterminals of a right-hand side and its prefix are right
 pub done_leaders : {G : Cfg} {L : ℕ} {t : List ℕ} {m : ℕ} → Limits G → AllDone G L t m → (s : ℕ) → LeadingCorrect G L t (right_of (G.slot s)) m
 done_leaders z d s p B Xs v e = (d B (nonterminal_known z s p B Xs e)).count
 
@@ -150,18 +133,18 @@ done_prefix {G} {L} {t} {m} z d s i p q o l n = go (G.slot s) refl
     go (rule A Ys) e = (d A (z.left_known s A Ys e)).prefixes s i (ap left_of e) q (omega arith) shorter
 
 -- the prefix of a slot is right, once its suffixes up to the end of the prefix are
-pub prefix_done : {G : Cfg} {level : ℕ → ℕ} → Ll1 G level → (L : ℕ) (u : List ℕ) (A m : ℕ) (r : Bool) (s e : ℕ) → e < length (right_of (G.slot s)) → NeedsNoRest G (right_of (G.slot s)) e
+pub prefix_done : {G : Cfg} {level : ℕ → ℕ} → Ll1 G level → (L : ℕ) (u : List ℕ) (A m : ℕ) {T : Type 0} (r : Result T TooLarge) (s e : ℕ) → e < length (right_of (G.slot s)) → NeedsNoRest G (right_of (G.slot s)) e
     → UnlessOver r G m ((q : ℕ) → 0 ≤ q → q < e + 1 → Correct G L u (Suffix s q) m) → UnlessOver r G m (PrefixCorrectOf G L u A m s)
-prefix_done {G} ll L u A m true s e l last d = λ f p o n. d p (omega arith) (omega (arith, prefix_within ll (right_of (G.slot s)) p e l last o n))
-prefix_done ll L u A m false s e l last d = d
+prefix_done {G} ll L u A m (Ok x) s e l last d = λ f p o n. d p (omega arith) (omega (arith, prefix_within ll (right_of (G.slot s)) p e l last o n))
+prefix_done ll L u A m (Err x) s e l last d = d
 
 -- all suffixes of a slot are, once those behind the prefix are too
-pub rest_done : {G : Cfg} {L : ℕ} {t u : List ℕ} {m : ℕ} → Limits G → (r : Bool) (s e n : ℕ) → s < G.slots → m ≤ L → AllDone G L t m → Keeps G L t u → e < length (right_of (G.slot s))
+pub rest_done : {G : Cfg} {L : ℕ} {t u : List ℕ} {m : ℕ} → Limits G → {T : Type 0} (r : Result T TooLarge) (s e n : ℕ) → s < G.slots → m ≤ L → AllDone G L t m → Keeps G L t u → e < length (right_of (G.slot s))
     → Nullable G (take e (right_of (G.slot s))) → n ≡ length (right_of (G.slot s)) → UnlessOver r G m ((q : ℕ) → e + 1 ≤ q → q < n → Correct G L u (Suffix s q) m)
     → UnlessOver r G m ((q : ℕ) → q < length (right_of (G.slot s)) → Correct G L u (Suffix s q) m)
-rest_done {m = m} z true s e n i l a k o v x d = λ q h.
+rest_done {m = m} z (Ok _) s e n i l a k o v x d = λ q h.
     ⊎_elim
     (λ b. k.still (Suffix s q) m (i, h) l (done_prefix z a s i e q (omega arith) o v))
     (λ b. d q b (omega arith))
     (cases_lt q (e + 1))
-rest_done z false s e n i l a k o v x d = d
+rest_done z (Err _) s e n i l a k o v x d = d

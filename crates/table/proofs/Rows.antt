@@ -84,6 +84,9 @@ obey_more G L t {ρ} {r} a m l c d low σ n k o b =
 pub obey_all : (G : Cfg) (L : ℕ) (t : List ℕ) → ObeyBelow G L t (place L (rows G) 0) → AllObey G L t
 obey_all G L t c ρ m h l = c ρ m h l (omega (arith, cell_below G L ρ m h l))
 
+pub row_inside : {G : Cfg} {ρ : Row} {r : ℕ} → AtRow G ρ r → r < rows G
+row_inside {G} {ρ} a = omega (arith, row_below G ρ a.is_row, a.is)
+
 pub row_small : {G : Cfg} {ρ : Row} {r : ℕ} → Limits G → AtRow G ρ r → r < 400
 row_small {G} {ρ} z a = omega (arith, row_below G ρ a.is_row, rows_few z, a.is)
 
@@ -99,9 +102,8 @@ row_after L r m e = omega (arith, add-mul r 1 (L + 1))
 pub row_product : (L r : ℕ) → r ≤ 400 → L ≤ 48 → r * (L + 1) ≤ 19600
 row_product L r l k = mul-le r (L + 1) 400 49 l (omega arith)
 
--- each row has its cells
-pub cell_inside : {G : Cfg} {L : ℕ} {t : List ℕ} → Room G L t → (r m : ℕ) → r < rows G → m ≤ L → place L r m < length t
-cell_inside {G} {L} f r m h l = omega (arith, mul-add-lt r (L + 1) m (rows G) h (omega arith), f.enough)
+pub place_small : {G : Cfg} {ρ : Row} {r : ℕ} → Limits G → AtRow G ρ r → (L m : ℕ) → L ≤ 48 → m ≤ L → place L r m ≤ 19648
+place_small {r = r} z a L m k l = let s = row_small z a in omega (arith, row_product L r (omega arith) k)
 
 pub nonterminal_row : (G : Cfg) (A : ℕ) → A < G.nonterminals → A < rows G
 nonterminal_row G A h = row_below G (Nonterminal A) h

@@ -1,9 +1,8 @@
 -- What a write at an index leaves of what holds below it and past it.
-use Rattle.std.proofs.Common.{◌≡◌, ℕ, ◌+◌, ◌<◌, ◌≤◌, ◌≢◌, List, length, get_or, set, replicate, ⊎_elim, arith, length-set, get_or-set_other, get_or-set_same, below_more}
+use Rattle.std.proofs.Common.{◌≡◌, ℕ, ◌+◌, ◌<◌, ◌≤◌, ◌≢◌, List, length, get_or, set, replicate, ⊎_elim, arith, get_or-set_other, get_or-set_same, below_more}
 use lib.ListN.{length-replicate}
 use Rattle.std.proofs.lemmas.List.{get_or-replicate, get_or_past}
 use Rattle.std.proofs.lemmas.Bool.{cases_lt}
-use Rattle.table.specs.Calls.{SamePast}
 
 -- what holds of each element below i, and of the one written at i
 pub below_set : (P : ℕ → ℕ → Type 0) (s : List ℕ) (i v : ℕ) → i < length s → ((k : ℕ) → k < i → P k (get_or s k 0)) → P i v
@@ -12,11 +11,6 @@ below_set P s i v lt below here =
     below_more (λ k. P k (get_or (set s i v) k 0)) i
     (λ k h. let ne : k ≢ i = omega arith in rw get_or-set_other (below k h))
     (rw get_or-set_same here)
-
--- a write below n leaves what stands from n on
-pub past_set : (before s : List ℕ) (n i v : ℕ) → i < n → SamePast n before s → SamePast n before (set s i v)
-past_set before s n i v lt p =
-    (rw length-set p.0, λ k h. let ne : k ≢ i = omega arith in rw get_or-set_other (p.1 k h))
 
 -- a list of zeros reads as 0 everywhere
 pub zeros_at : (n k : ℕ) → get_or {A = ℕ} (replicate n 0) k 0 ≡ 0

@@ -1,5 +1,5 @@
 -- A table in the making: which cells hold their count already. Assumes nothing.
-use Rattle.std.specs.Prelude.{◌≡◌, ℕ, ◌^◌, ◌<◌, ◌≤◌, Bool, true, false, ◌⊎◌, List, [], ◌∷◌, length, take, drop, Some, None, Option, ◌==◌, slice_index}
+use Rattle.std.specs.Prelude.{◌≡◌, ℕ, ◌^◌, ◌<◌, ◌≤◌, ◌⊎◌, List, [], ◌∷◌, length, take, drop, Some, None, Ok, Err, Option, Result, slice_index}
 use Rattle.theory.specs.Grammar.{Symbol, nonterminal, Cfg}
 use Rattle.theory.specs.Sets.{Nullable, LeftCorner}
 use Rattle.theory.specs.Count.{left_of, right_of, symbol_count, count}
@@ -7,6 +7,7 @@ use Rattle.table.specs.Rows.{RowOf, row_number, needed, cell_at}
 use Rattle.table.specs.Counts.{count_of}
 use Rattle.table.specs.Layouts.{Ready}
 use Rattle.table.specs.declared.layout.Layout.{Layout}
+use Rattle.table.specs.declared.filling.TooLarge.{TooLarge}
 use Rattle.table.specs.declared.Row.{Row}
 use Rattle.table.specs.declared.Row.TheVariants.{Nonterminal, Suffix}
 
@@ -14,11 +15,6 @@ use Rattle.table.specs.declared.Row.TheVariants.{Nonterminal, Suffix}
 abbrev pub Within : ℕ → Option ℕ → Type 0
 Within n (Some s) = (s ≡ n) × (n < 2 ^ 63)
 Within n None = 2 ^ 63 ≤ n
-
--- a cell agrees with a sum that it equals
-abbrev pub agrees_with : Option ℕ → ℕ → Bool
-agrees_with (Some s) held = s == held
-agrees_with None held = false
 
 -- the cell of ρ at m holds its count
 pub record Correct (G : Cfg) (L : ℕ) (cells : List ℕ) (ρ : Row) (m : ℕ) : Type 0 where
@@ -47,10 +43,10 @@ pub record Over (G : Cfg) (m : ℕ) : Type 0 where
   pub is_row : RowOf G row
   pub over : 2 ^ 63 ≤ count_of G row m
 
--- P where the flag says so, else a count at m passes the limit
-abbrev pub UnlessOver : Bool → Cfg → ℕ → Type 0 → Type 0
-UnlessOver true G m P = P
-UnlessOver false G m P = Over G m
+-- P where all is well, else a count at m passes the limit
+abbrev pub UnlessOver : {T : Type 0} → Result T TooLarge → Cfg → ℕ → Type 0 → Type 0
+UnlessOver (Ok _) G m P = P
+UnlessOver (Err e) G m P = Over G m × (e.length ≡ m)
 
 -- the nonterminals that stand in Ys before p are right at m
 abbrev pub FirstsCorrect : Cfg → ℕ → List ℕ → List Symbol → ℕ → ℕ → Type 0

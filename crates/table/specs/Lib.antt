@@ -3,8 +3,11 @@ pub mod Equations
 pub mod Terms
 pub mod Counts
 pub mod Layouts
+pub mod Seen
 pub mod Filling
+pub mod Making
 pub mod Reading
 pub mod Calls
+pub mod CountsOf
 pub mod Checked
 pub mod Laws

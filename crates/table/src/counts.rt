@@ -1,9 +1,18 @@
 //! The counts of a table that has been checked.
 
-/// The cells of a table that has been checked, its bound, and for each slot the row of its first suffix: what the calls read that come after the check.
+ghost use Rattle.std.specs.Prelude.{◌≡◌};
+ghost use Rattle.table.specs.Rows.{rows};
+ghost use Rattle.table.specs.Reading.{SoundCells};
+
+use crate::layout::Layout;
+use grammar::Grammar;
+
+/// The counts of a grammar, in the cells of a table that has been checked: what the calls read that come after the check.
 #[derive(Drop)]
-pub struct Counts<'a> {
+pub struct Counts<'a, G: Grammar> {
+    pub grammar: &'a G,
+    pub(crate) layout: Layout,
     pub(crate) cells: &'a [u64],
-    pub(crate) bound: u8,
-    pub(crate) offsets: [u16; 64],
+    ghost laid: { layout.rows ≡ rows (G.meaning grammar.now) },
+    ghost sound: { SoundCells (G.meaning grammar.now) layout.bound cells.now layout.offsets },
 }

@@ -3,205 +3,201 @@
 //! Length by length: first the nonterminals by ascending level, each after those suffixes of its right-hand sides that it needs at that length, which are
 //! the ones behind nullable symbols only; then the other suffixes. So no cell is read before it is written, unless it is multiplied by 0.
 
-ghost use Rattle.std.specs.Prelude.{◌≡◌, ℕ, ◌+◌, ◌-◌, ◌*◌, ◌<◌, ◌≤◌, Bool, true, false, length, take, nat_lt, slice_set};
-ghost use Rattle.theory.specs.Sets.{Nullable};
-ghost use Rattle.theory.specs.Count.{right_of};
-ghost use Rattle.table.specs.Rows.{RowOf, place};
-ghost use Rattle.table.specs.Equations.{equation};
-ghost use Rattle.table.specs.Terms.{byte_count};
-ghost use Rattle.table.specs.Counts.{count_of};
-ghost use Rattle.table.specs.Layouts.{Ready, AtRow};
-ghost use Rattle.table.specs.Filling.{Correct, CorrectBelow, ReadyAt, Keeps, UnlessOver, FirstsCorrect, NeedsNoRest, CornersCorrect, LeadingCorrect, PrefixCorrectOf, Done, AllDone};
+ghost use Rattle.std.specs.Prelude.{◌≡◌, ◌+◌};
+ghost use Rattle.fault.specs.declared.Fault.TheVariants.{CountTooLarge};
+ghost use Rattle.table.specs.Filling.{ReadyAt, CorrectBelow, Keeps, UnlessOver};
 
 use crate::Row;
+use crate::cells::Cells;
 use crate::layout::Layout;
-use crate::sums::{cell, sum_of, terms_of};
+use crate::sums::terms_of;
+use fault::Fault;
 use grammar::Grammar;
 
-// Writes the cell of a row for the length `m`.
-fn put(bound: usize, cells: &mut [u64], row: usize, m: usize, value: u64)
-    requires { (bound ≤ 48) × ((row ≤ 400) × ((m ≤ bound) × (place bound row m < length cells.old))) }
-    ensures { cells.new ≡ slice_set cells.old (place bound row m) value }
-{
-    cells[row * (bound + 1) + m] = value;
+/// Some count of this length passes 2^63 - 1.
+#[derive(Clone, Copy)]
+pub(crate) struct TooLarge {
+    pub(crate) length: usize,
 }
 
-// Writes the count of `row`, which stands at `at`, for the length `m`; false where it passes the limit.
-fn fill<G: Grammar>(
-    g: &G,
-    layout: &Layout,
-    cells: &mut [u64],
-    row: Row,
-    at: usize,
-    m: usize,
-) -> bool
-    requires ready { Ready (G.meaning g.now) layout.now cells.old }
-    requires short { m ≤ layout.now.bound }
-    requires stands { AtRow (G.meaning g.now) row at }
-    requires due { equation (G.meaning g.now) layout.now.bound cells.old row m ≡ count_of (G.meaning g.now) row m }
-    ensures keeps { Keeps (G.meaning g.now) layout.now.bound cells.old cells.new }
-    ensures done { UnlessOver result (G.meaning g.now) m (Correct (G.meaning g.now) layout.now.bound cells.new row m) }
-{
-    let terms = terms_of(g, row);
-    let Some(value) = sum_of(g, layout, cells, terms, at, m) else {
-        return false;
-    };
-    put(layout.bound, cells, at, m, value);
-    true
+impl From<TooLarge> for Fault {
+    ghost from_gives = { λ e f. f ≡ CountTooLarge e.length };
+
+    fn from(e: TooLarge) -> Fault {
+        Fault::CountTooLarge(e.length as u64)
+    }
 }
 
-// Writes the suffixes of slot `s` from position `to` - 1 down to `from`, for the length `m`; false where a count passes the limit.
-fn fill_suffixes<G: Grammar>(
-    g: &G,
-    layout: &Layout,
-    cells: &mut [u64],
-    s: u8,
-    from: u8,
-    to: u8,
-    m: usize,
-) -> bool
-    requires ready { ReadyAt (G.meaning g.now) layout.now cells.old m }
-    requires inside { s < (G.meaning g.now).slots }
-    requires far { to ≤ length (right_of ((G.meaning g.now).slot s)) }
-    requires firsts { FirstsCorrect (G.meaning g.now) layout.now.bound cells.old (right_of ((G.meaning g.now).slot s)) to m }
-    requires last { (p : ℕ) → p + 1 ≡ to → NeedsNoRest (G.meaning g.now) (right_of ((G.meaning g.now).slot s)) p }
-    ensures keeps { Keeps (G.meaning g.now) layout.now.bound cells.old cells.new }
-    ensures done { UnlessOver result (G.meaning g.now) m ((q : ℕ) → from ≤ q → q < to → Correct (G.meaning g.now) layout.now.bound cells.new (Row.Suffix s q) m) }
-{
-    let offset = layout.offsets[s as usize] as usize;
-    for position in (from..to).rev() {
-        let row = Row::Suffix { slot: s, position };
-        if !fill(g, layout, cells, row, offset + position as usize, m) {
-            return false;
+/// A table whose cells are filled for one length, where all cells of shorter lengths hold their counts.
+#[derive(Drop)]
+pub(crate) struct Filling<'a, G: Grammar> {
+    pub(crate) cells: &'a mut [u64],
+    pub(crate) grammar: &'a G,
+    pub(crate) layout: &'a Layout,
+    pub(crate) length: usize,
+    ghost ready: { ReadyAt (G.meaning grammar.now) layout.now cells.now length },
+}
+
+// Each method that writes is refused where a count passes the limit.
+impl<G: Grammar> Filling<'_, G> {
+    ghost use Rattle.std.specs.Prelude.{◌≡◌, ℕ, ◌+◌, ◌<◌, ◌≤◌, length};
+    ghost use Rattle.theory.specs.Count.{right_of};
+    ghost use Rattle.table.specs.Rows.{RowOf};
+    ghost use Rattle.table.specs.Equations.{equation};
+    ghost use Rattle.table.specs.Counts.{count_of};
+    ghost use Rattle.table.specs.Layouts.{AtRow};
+    ghost use Rattle.table.specs.Filling.{Within, NeedsNoRest, CorrectBelow};
+    ghost use Rattle.table.specs.Making.{grammar_of, bound_of, Right, FirstsRight, CornersRight, PrefixRight, DoneRight, AllDoneRight, UnlessTooLarge, Stays, Reads};
+
+    // The cells, to be read.
+    fn seen(&self) -> Cells<'_, G>
+        ensures { Reads self.now result }
+    {
+        Cells {
+            grammar: self.grammar,
+            layout: self.layout,
+            cells: &*self.cells,
         }
     }
-    true
-}
 
-// Whether the symbol with that byte counts something at length 0.
-fn is_nullable(bound: usize, cells: &[u64], symbol: u8) -> bool
-    requires { (bound ≤ 48) × ((128 ≤ symbol → place bound (symbol - 128) 0 < length cells.now)) }
-    ensures { result ≡ nat_lt 0 (byte_count bound cells.now symbol 0) }
-{
-    symbol >= 128 && cell(bound, cells, (symbol - 128) as usize, 0) > 0
-}
-
-// The position in slot `s` of the first symbol that is not nullable, or else the last position.
-fn prefix_end<G: Grammar>(g: &G, layout: &Layout, cells: &[u64], s: u8) -> u8
-    requires ready { Ready (G.meaning g.now) layout.now cells.now }
-    requires inside { s < (G.meaning g.now).slots }
-    requires some { 0 < length (right_of ((G.meaning g.now).slot s)) }
-    requires leaders { LeadingCorrect (G.meaning g.now) layout.now.bound cells.now (right_of ((G.meaning g.now).slot s)) 0 }
-    ensures far { result < length (right_of ((G.meaning g.now).slot s)) }
-    ensures before { Nullable (G.meaning g.now) (take result (right_of ((G.meaning g.now).slot s))) }
-    ensures last { NeedsNoRest (G.meaning g.now) (right_of ((G.meaning g.now).slot s)) result }
-{
-    let end = g.length(s) - 1;
-    for p in 0..end {
-        let Some(symbol) = g.symbol(s, p) else {
-            unreachable()
-        };
-        if !is_nullable(layout.bound, cells, symbol) {
-            return p;
-        }
+    // What the equation of `row`, which stands at `at`, says of its cell, unless that passes the limit.
+    fn sum(&self, row: Row, at: usize) -> Option<u64>
+        requires { AtRow (grammar_of self.now) row at }
+        ensures { Within (equation (grammar_of self.now) (bound_of self.now) self.now.cells.now row self.now.length) result }
+    {
+        self.seen()
+            .sum_of(terms_of(self.grammar, row, at), self.length)
     }
-    end
-}
 
-// Writes the suffixes of slot `s` that its left-hand side, if that is `a`, needs for the length `m`; false where a count passes the limit.
-fn fill_prefix<G: Grammar>(
-    g: &G,
-    layout: &Layout,
-    cells: &mut [u64],
-    a: u8,
-    s: u8,
-    m: usize,
-) -> bool
-    requires ready { ReadyAt (G.meaning g.now) layout.now cells.old m }
-    requires inside { s < (G.meaning g.now).slots }
-    requires corners { CornersCorrect (G.meaning g.now) layout.now.bound cells.old a m }
-    ensures keeps { Keeps (G.meaning g.now) layout.now.bound cells.old cells.new }
-    ensures done { UnlessOver result (G.meaning g.now) m (PrefixCorrectOf (G.meaning g.now) layout.now.bound cells.new a m s) }
-{
-    if let Some(b) = g.left(s) {
-        if b == a && g.length(s) > 0 {
-            let end = prefix_end(g, layout, cells, s);
-            return fill_suffixes(g, layout, cells, s, 0, end + 1, m);
-        }
+    // Writes the count of `row`, which stands at `at`.
+    fn fill(&mut self, row: Row, at: usize) -> Result<(), TooLarge>
+        requires stands { AtRow (grammar_of self.old) row at }
+        requires due { equation (grammar_of self.old) (bound_of self.old) self.old.cells.now row self.old.length ≡ count_of (grammar_of self.old) row self.old.length }
+        ensures stays { Stays self.old self.new }
+        ensures done { UnlessTooLarge result self.old (Right self.new row) }
+    {
+        let sum = self.sum(row, at);
+        let i = self.layout.place(at, self.length);
+        self.cells[i] = sum.ok_or(TooLarge {
+            length: self.length,
+        })?;
+        Ok(())
     }
-    true
-}
 
-// Writes the cell of the nonterminal `a` for the length `m`, with the suffixes that it needs; false where a count passes the limit.
-fn fill_nonterminal<G: Grammar>(g: &G, layout: &Layout, cells: &mut [u64], a: u8, m: usize) -> bool
-    requires ready { ReadyAt (G.meaning g.now) layout.now cells.old m }
-    requires inside { a < (G.meaning g.now).nonterminals }
-    requires corners { CornersCorrect (G.meaning g.now) layout.now.bound cells.old a m }
-    ensures keeps { Keeps (G.meaning g.now) layout.now.bound cells.old cells.new }
-    ensures done { UnlessOver result (G.meaning g.now) m (Done (G.meaning g.now) layout.now.bound cells.new m a) }
-{
-    for s in 0..g.slots() {
-        if !fill_prefix(g, layout, cells, a, s, m) {
-            return false;
+    // Writes the suffixes of slot `s` from position `to` - 1 down to `from`.
+    fn fill_suffixes(&mut self, s: u8, from: u8, to: u8) -> Result<(), TooLarge>
+        requires inside { s < (grammar_of self.old).slots }
+        requires far { to ≤ length (right_of ((grammar_of self.old).slot s)) }
+        requires firsts { FirstsRight self.old (right_of ((grammar_of self.old).slot s)) to }
+        requires last { (p : ℕ) → p + 1 ≡ to → NeedsNoRest (grammar_of self.old) (right_of ((grammar_of self.old).slot s)) p }
+        ensures stays { Stays self.old self.new }
+        ensures done { UnlessTooLarge result self.old ((q : ℕ) → from ≤ q → q < to → Right self.new (Row.Suffix s q)) }
+    {
+        let offset = self.layout.offsets[s as usize] as usize;
+        for position in (from..to).rev() {
+            let row = Row::Suffix { slot: s, position };
+            self.fill(row, offset + position as usize)?;
         }
+        Ok(())
     }
-    fill(g, layout, cells, Row::Nonterminal(a), a as usize, m)
-}
 
-// Writes the cells of all nonterminals for the length `m`, by ascending level, with the suffixes that they need; false where a count passes the limit.
-fn fill_nonterminals<G: Grammar>(g: &G, layout: &Layout, cells: &mut [u64], m: usize) -> bool
-    requires ready { ReadyAt (G.meaning g.now) layout.now cells.old m }
-    ensures keeps { Keeps (G.meaning g.now) layout.now.bound cells.old cells.new }
-    ensures done { UnlessOver result (G.meaning g.now) m (AllDone (G.meaning g.now) layout.now.bound cells.new m) }
-{
-    for level in 0..16u8 {
-        for a in 0..g.nonterminals() {
-            if g.level(a) == level {
-                if !fill_nonterminal(g, layout, cells, a, m) {
-                    return false;
+    // Writes the suffixes of slot `s` that its left-hand side, if that is `a`, needs.
+    fn fill_prefix(&mut self, a: u8, s: u8) -> Result<(), TooLarge>
+        requires inside { s < (grammar_of self.old).slots }
+        requires corners { CornersRight self.old a }
+        ensures stays { Stays self.old self.new }
+        ensures done { UnlessTooLarge result self.old (PrefixRight self.new a s) }
+    {
+        if self.grammar.left(s) == Some(a) && self.grammar.length(s) > 0 {
+            let end = self.seen().prefix_end(s);
+            return self.fill_suffixes(s, 0, end + 1);
+        }
+        Ok(())
+    }
+
+    // Writes the cell of the nonterminal `a`, with the suffixes that it needs.
+    fn fill_nonterminal(&mut self, a: u8) -> Result<(), TooLarge>
+        requires inside { a < (grammar_of self.old).nonterminals }
+        requires corners { CornersRight self.old a }
+        ensures stays { Stays self.old self.new }
+        ensures done { UnlessTooLarge result self.old (DoneRight self.new a) }
+    {
+        for s in 0..self.grammar.slots() {
+            self.fill_prefix(a, s)?;
+        }
+        self.fill(Row::Nonterminal(a), a as usize)
+    }
+
+    // Writes the cells of all nonterminals, by ascending level, with the suffixes that they need.
+    fn fill_nonterminals(&mut self) -> Result<(), TooLarge>
+        ensures stays { Stays self.old self.new }
+        ensures done { UnlessTooLarge result self.old (AllDoneRight self.new) }
+    {
+        for level in 0..16u8 {
+            for a in 0..self.grammar.nonterminals() {
+                if self.grammar.level(a) == level {
+                    self.fill_nonterminal(a)?;
                 }
             }
         }
+        Ok(())
     }
-    true
-}
 
-// Writes the suffixes of slot `s` for the length `m` that its left-hand side did not need; false where a count passes the limit.
-fn fill_rest<G: Grammar>(g: &G, layout: &Layout, cells: &mut [u64], s: u8, m: usize) -> bool
-    requires ready { ReadyAt (G.meaning g.now) layout.now cells.old m }
-    requires inside { s < (G.meaning g.now).slots }
-    requires prefixes { AllDone (G.meaning g.now) layout.now.bound cells.old m }
-    ensures keeps { Keeps (G.meaning g.now) layout.now.bound cells.old cells.new }
-    ensures done { UnlessOver result (G.meaning g.now) m ((q : ℕ) → q < length (right_of ((G.meaning g.now).slot s)) → Correct (G.meaning g.now) layout.now.bound cells.new (Row.Suffix s q) m) }
-{
-    let n = g.length(s);
-    if n == 0 {
-        return true;
-    }
-    let end = prefix_end(g, layout, cells, s);
-    fill_suffixes(g, layout, cells, s, end + 1, n, m)
-}
-
-// Writes the suffixes of all slots for the length `m` that the nonterminals did not need; false where a count passes the limit.
-fn fill_rests<G: Grammar>(g: &G, layout: &Layout, cells: &mut [u64], m: usize) -> bool
-    requires ready { ReadyAt (G.meaning g.now) layout.now cells.old m }
-    requires prefixes { AllDone (G.meaning g.now) layout.now.bound cells.old m }
-    ensures keeps { Keeps (G.meaning g.now) layout.now.bound cells.old cells.new }
-    ensures done { UnlessOver result (G.meaning g.now) m ((s q : ℕ) → RowOf (G.meaning g.now) (Row.Suffix s q) → Correct (G.meaning g.now) layout.now.bound cells.new (Row.Suffix s q) m) }
-{
-    for s in 0..g.slots() {
-        if !fill_rest(g, layout, cells, s, m) {
-            return false;
+    // Writes the suffixes of slot `s` that its left-hand side did not need.
+    fn fill_rest(&mut self, s: u8) -> Result<(), TooLarge>
+        requires inside { s < (grammar_of self.old).slots }
+        requires prefixes { AllDoneRight self.old }
+        ensures stays { Stays self.old self.new }
+        ensures done { UnlessTooLarge result self.old ((q : ℕ) → RowOf (grammar_of self.new) (Row.Suffix s q) → Right self.new (Row.Suffix s q)) }
+    {
+        let n = self.grammar.length(s);
+        if n == 0 {
+            return Ok(());
         }
+        let end = self.seen().prefix_end(s);
+        self.fill_suffixes(s, end + 1, n)
     }
-    true
+
+    // Writes the suffixes of all slots that the nonterminals did not need.
+    fn fill_rests(&mut self) -> Result<(), TooLarge>
+        requires { AllDoneRight self.old }
+        ensures stays { Stays self.old self.new }
+        ensures done { UnlessTooLarge result self.old ((s q : ℕ) → RowOf (grammar_of self.new) (Row.Suffix s q) → Right self.new (Row.Suffix s q)) }
+    {
+        for s in 0..self.grammar.slots() {
+            self.fill_rest(s)?;
+        }
+        Ok(())
+    }
+
+    // Writes all cells.
+    fn fill_all(&mut self) -> Result<(), TooLarge>
+        ensures stays { Stays self.old self.new }
+        ensures done { UnlessTooLarge result self.old (CorrectBelow (grammar_of self.new) (bound_of self.new) self.new.cells.now (self.new.length + 1)) }
+    {
+        self.fill_nonterminals()?;
+        self.fill_rests()
+    }
 }
 
-/// Writes all cells for the length `m`; false where a count passes the limit.
-pub(crate) fn fill_length<G: Grammar>(g: &G, layout: &Layout, cells: &mut [u64], m: usize) -> bool
-    requires ready { ReadyAt (G.meaning g.now) layout.now cells.old m }
+/// Writes all cells for the length `m`; refused where a count passes the limit.
+///
+/// A function of its own, since a proof knows nothing of the guard's cells once a struct in its loop has borrowed them.
+pub(crate) fn fill_length<G: Grammar>(
+    g: &G,
+    layout: &Layout,
+    cells: &mut [u64],
+    m: usize,
+) -> Result<(), TooLarge>
+    requires { ReadyAt (G.meaning g.now) layout.now cells.old m }
     ensures keeps { Keeps (G.meaning g.now) layout.now.bound cells.old cells.new }
     ensures done { UnlessOver result (G.meaning g.now) m (CorrectBelow (G.meaning g.now) layout.now.bound cells.new (m + 1)) }
 {
-    fill_nonterminals(g, layout, cells, m) && fill_rests(g, layout, cells, m)
+    let mut filling = Filling {
+        cells,
+        grammar: g,
+        layout,
+        length: m,
+    };
+    filling.fill_all()
 }

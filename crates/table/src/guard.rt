@@ -4,7 +4,7 @@ ghost use Rattle.std.specs.Prelude.{◌≡◌, ℕ, ◌<◌, ◌≤◌, length, 
 ghost use Rattle.table.specs.Layouts.{Ready};
 ghost use Rattle.table.specs.Calls.{Zeroed, Released, Filled, Stopped};
 
-use crate::filling::fill_length;
+use crate::filling::{TooLarge, fill_length};
 use crate::layout::Layout;
 use grammar::Grammar;
 
@@ -13,9 +13,7 @@ fn zero(cells: &mut [u64], n: usize)
     requires { n ≤ length cells.old }
     ensures { Zeroed n cells.old cells.new }
 {
-    for i in 0..n {
-        cells[i] = 0;
-    }
+    cells[..n].fill(0);
 }
 
 /// Holds the cells of a table while it is counted. Dropped before the count is accepted, it writes 0 into the needed cells.
@@ -47,19 +45,17 @@ pub(crate) fn count_cells<G: Grammar>(
     g: &G,
     layout: &Layout,
     cells: &mut [u64],
-) -> Result<(), usize>
+) -> Result<(), TooLarge>
     requires ready { Ready (G.meaning g.now) layout.now cells.old }
-    ensures { MatchResult result (λ _. Filled (G.meaning g.now) layout.now.bound cells.old cells.new) (Stopped (G.meaning g.now) layout.now.bound cells.old cells.new) }
+    ensures { MatchResult result (λ _. Filled (G.meaning g.now) layout.now.bound cells.old cells.new) (λ e. Stopped (G.meaning g.now) layout.now.bound cells.old cells.new e.length) }
 {
     let mut counting = Counting {
         cells,
         needed: layout.rows * (layout.bound + 1),
         accepted: false,
     };
-    for m in 0..layout.bound + 1 {
-        if !fill_length(g, layout, counting.cells, m) {
-            return Err(m);
-        }
+    for m in 0..=layout.bound {
+        fill_length(g, layout, counting.cells, m)?;
     }
     counting.accepted = true;
     Ok(())

@@ -5,24 +5,26 @@
 
 #![tactic(auto)]
 
-ghost use Rattle.std.specs.Prelude.{IfOk, Decides, MatchResult};
+ghost use Rattle.std.specs.Prelude.{◌≡◌, IfOk, Decides, MatchResult};
 ghost use Rattle.table.specs.Calls.{NoRoom, HasRoom, NeededAnswer, CountAnswer, CheckAnswer};
 ghost use Rattle.table.specs.Checked.{Short, SufficientLayout, Insufficient, CheckedAnswer};
 ghost use Rattle.table.specs.Layouts.{NoOffsetsPast};
 ghost use Rattle.table.specs.Laws.{NeededCellsAreThoseOfTheRows, EquationsHaveOneSolution, CountsFitBelowFailure};
 
-use checking::lowest_broken;
+use cells::Cells;
 pub use counts::Counts;
 use fault::{Fault, Memory};
 use grammar::Grammar;
 use guard::count_cells;
 use layout::{Layout, lay_out};
 
+mod cells;
 mod checking;
 mod counts;
 mod filling;
 mod guard;
 mod layout;
+mod nullable;
 mod reading;
 mod sums;
 
@@ -73,40 +75,29 @@ fn room<G: Grammar>(g: &G, bound: usize, cells: usize) -> Result<Layout, Fault>
 pub fn needed_cells<G: Grammar>(g: &G, table: &Table<'_>) -> Result<usize, Fault>
     ensures { NeededAnswer (G.meaning g.now) table.now.bound table.now.cells.now result }
 {
-    let layout = room(g, table.bound, table.cells.len())?;
-    Ok(layout.rows * (table.bound + 1))
-}
-
-// Counts the table in `cells` for `bound`.
-fn count_table<G: Grammar>(g: &G, bound: usize, cells: &mut [u64]) -> Result<(), Fault>
-    ensures { CountAnswer (G.meaning g.now) bound cells.old cells.new result }
-{
-    let layout = room(g, bound, cells.len())?;
-    if let Err(m) = count_cells(g, &layout, cells) {
-        return Err(Fault::CountTooLarge(m as u64));
-    }
-    Ok(())
+    let rows = room(g, table.bound, table.cells.len())?.rows;
+    Ok(rows * (table.bound + 1))
 }
 
 /// Fills the needed cells with the counts: each is how many sentences its nonterminal has of its length, or how many ways its suffix has at that length.
 ///
 /// Fault 9 if the bound is above 48, place the bound; 10 if there are too few cells, place 1; 11 if a count passes 2^63 - 1, place the smallest such length.
 /// After 11 the needed cells are 0; after 9 and 10 all cells are unchanged. The cells past the needed ones are always unchanged.
-pub fn count<G: Grammar>(g: &G, table: Table<'_>) -> Result<(), Fault>
-    ensures { CountAnswer (G.meaning g.now) table.entry.bound table.entry.cells.now table.exit.0.now result }
+pub fn count<G: Grammar>(g: &G, table: &mut Table<'_>) -> Result<(), Fault>
+    ensures answer { CountAnswer (G.meaning g.now) table.old.bound table.old.cells.now table.new.cells.now result }
+    ensures bound { table.new.bound ≡ table.old.bound }
+    ensures same { table.new.cells.ghost_name ≡ table.old.cells.ghost_name }
 {
-    let Table { cells, bound } = table;
-    count_table(g, bound, cells)
+    let layout = room(g, table.bound, table.cells.len())?;
+    count_cells(g, &layout, table.cells)?;
+    Ok(())
 }
 
 // Whether a memory of which `lent` is lent is shorter than `asked`.
 fn is_short(lent: Option<usize>, asked: usize) -> bool
     ensures { Decides result (Short lent asked) }
 {
-    match lent {
-        Some(amount) => amount < asked,
-        None => false,
-    }
+    lent.is_some_and(|amount| amount < asked)
 }
 
 // The layout of the table of `g`, if lengths and memory are sufficient for a call over sentences of that length.
@@ -132,53 +123,31 @@ fn sufficient<G: Grammar>(
     Ok(layout)
 }
 
-// The counts of the table in `cells` for `bound`, if it may be used for a call over sentences of that length.
-fn judge<'a, G: Grammar>(
-    g: &G,
-    bound: usize,
-    cells: &'a [u64],
-    length: usize,
-    lent: Lent,
-) -> Result<Counts<'a>, Fault>
-    ensures { CheckedAnswer (G.meaning g.now) bound cells.now length lent result }
-{
-    let layout = sufficient(g, bound, cells, length, lent)?;
-    if let Some(i) = lowest_broken(g, &layout, cells) {
-        return Err(Fault::BrokenCell(i as u64));
-    }
-    let offsets = layout.offsets;
-    Ok(Counts {
-        cells,
-        bound: bound as u8,
-        offsets,
-    })
-}
-
 /// The check before a call over sentences of one length: the counts of the table, if it may be used.
 ///
 /// Fault 9 if the bound is above 48, place the bound, or the length above the bound, place the length; 10 if there are too few cells, place 1,
 /// entries of the stack, of which the call asks for (length + 1) × nonterminals, place 2, or bytes of output, of which it asks for as many as the length, place 3;
 /// 12 if a needed cell breaks its equation, place the lowest such cell.
 pub fn checked<'a, G: Grammar>(
-    g: &G,
+    g: &'a G,
     table: &'a Table<'_>,
     length: usize,
     lent: Lent,
-) -> Result<Counts<'a>, Fault>
-    ensures { CheckedAnswer (G.meaning g.now) table.now.bound table.now.cells.now length lent result }
+) -> Result<Counts<'a, G>, Fault>
+    ensures { CheckedAnswer g.now table.now.bound table.now.cells.now length lent result }
 {
-    judge(g, table.bound, table.cells, length, lent)
-}
-
-// Whether the table in `cells` for `bound` is sound.
-fn check_table<G: Grammar>(g: &G, bound: usize, cells: &[u64]) -> Result<(), Fault>
-    ensures { CheckAnswer (G.meaning g.now) bound cells.now result }
-{
-    let layout = room(g, bound, cells.len())?;
-    match lowest_broken(g, &layout, cells) {
-        None => Ok(()),
-        Some(i) => Err(Fault::BrokenCell(i as u64)),
-    }
+    let layout = sufficient(g, table.bound, table.cells, length, lent)?;
+    let cells = Cells {
+        grammar: g,
+        layout: &layout,
+        cells: table.cells,
+    };
+    cells.check_all()?;
+    Ok(Counts {
+        grammar: g,
+        layout,
+        cells: table.cells,
+    })
 }
 
 /// Whether every needed cell obeys its equation, which is so exactly if the table is sound.
@@ -187,7 +156,14 @@ fn check_table<G: Grammar>(g: &G, bound: usize, cells: &[u64]) -> Result<(), Fau
 pub fn check<G: Grammar>(g: &G, table: &Table<'_>) -> Result<(), Fault>
     ensures { CheckAnswer (G.meaning g.now) table.now.bound table.now.cells.now result }
 {
-    check_table(g, table.bound, table.cells)
+    let layout = &room(g, table.bound, table.cells.len())?;
+    let cells = Cells {
+        grammar: g,
+        layout,
+        cells: table.cells,
+    };
+    cells.check_all()?;
+    Ok(())
 }
 
 /// The needed cells are the cells of the rows, each of one row and one length.

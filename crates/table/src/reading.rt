@@ -2,9 +2,11 @@
 
 ghost use Rattle.std.specs.Prelude.{◌≡◌, ℕ, ◌+◌, ◌*◌, ◌<◌, ◌≤◌, take, drop, slice_index};
 ghost use Rattle.theory.specs.Count.{left_of, right_of, if_left};
-ghost use Rattle.table.specs.Reading.{numbered_row, counted_row, side_ways};
+ghost use Rattle.table.specs.Reading.{numbered_row, side_ways};
+ghost use Rattle.table.specs.CountsOf.{grammar_of, counted_row, Shows};
 
 use crate::Row;
+use crate::cells::Cells;
 use crate::counts::Counts;
 use grammar::Grammar;
 
@@ -12,42 +14,31 @@ use grammar::Grammar;
 fn part(cells: &[u64], from: usize, count: usize) -> &[u64]
     ensures { result.now ≡ take count (drop from cells.now) }
 {
-    let end = cells.len();
-    if from >= end {
-        return &cells[end..end];
-    }
-    if count > end - from {
-        return &cells[from..end];
-    }
-    &cells[from..from + count]
+    let rest = &cells[from.min(cells.len())..];
+    &rest[..count.min(rest.len())]
 }
 
-// The cell at `i`, 0 past the end.
-fn cell_or_zero(cells: &[u64], i: usize) -> u64
-    ensures { result ≡ slice_index cells.now i }
-{
-    if i < cells.len() { cells[i] } else { 0 }
-}
-
-impl Counts<'_> {
+impl<G: Grammar> Counts<'_, G> {
     // The row of the first suffix of a slot, 0 where there is no such slot.
     fn offset(&self, slot: u8) -> u16
-        ensures { result ≡ slice_index self.now.offsets slot }
+        ensures { result ≡ slice_index self.now.layout.offsets slot }
     {
-        match self.offsets.get(slot as usize) {
-            Some(row) => *row,
-            None => 0,
-        }
+        self.layout
+            .offsets
+            .get(usize::from(slot))
+            .copied()
+            .unwrap_or(0)
     }
 
     // Which row counts a nonterminal or a suffix.
     fn row_number(&self, row: Row) -> usize
-        ensures is { result ≡ numbered_row self.now.offsets row }
+        ensures is { result ≡ numbered_row self.now.layout.offsets row }
         ensures small { result ≤ 65790 }
     {
         match row {
-            Row::Nonterminal(a) => a as usize,
-            Row::Suffix { slot, position } => self.offset(slot) as usize + position as usize,
+            Row::Nonterminal(a) => usize::from(a),
+            Row::Suffix { slot, position } => usize::from(self.offset(slot))
+                + usize::from(position),
         }
     }
 
@@ -55,20 +46,29 @@ impl Counts<'_> {
     pub fn row(&self, row: Row) -> &[u64]
         ensures { result.now ≡ counted_row self.now row }
     {
-        let width = self.bound as usize + 1;
+        let width = self.layout.bound + 1;
         part(self.cells, self.row_number(row) * width, width)
     }
 
-    /// How many ways the right-hand side of `slot` has at `m`, if `slot` is one of a's, else 0.
-    pub fn slot_ways<G: Grammar>(&self, g: &G, a: u8, slot: u8, m: usize) -> u64
-        ensures { result ≡ if_left (left_of ((G.meaning g.now).slot slot)) a (side_ways (right_of ((G.meaning g.now).slot slot)) (counted_row self.now (Row.Suffix slot 0)) m) }
+    // The cells, to be read by row and length.
+    fn cells(&self) -> Cells<'_, G>
+        ensures { Shows self.now result }
     {
-        if g.left(slot) != Some(a) {
-            return 0;
+        Cells {
+            grammar: self.grammar,
+            layout: &self.layout,
+            cells: self.cells,
         }
-        if g.length(slot) == 0 {
-            return if m == 0 { 1 } else { 0 };
+    }
+
+    /// How many ways the right-hand side of `slot` has at `m`, if `slot` is one of a's, else 0.
+    pub fn slot_ways(&self, a: u8, slot: u8, m: usize) -> u64
+        ensures { result ≡ if_left (left_of ((grammar_of self.now).slot slot)) a (side_ways (right_of ((grammar_of self.now).slot slot)) (counted_row self.now (Row.Suffix slot 0)) m) }
+    {
+        if slot < self.grammar.slots() && m <= self.layout.bound {
+            self.cells().slot_count(a, slot, m)
+        } else {
+            0
         }
-        cell_or_zero(self.row(Row::Suffix { slot, position: 0 }), m)
     }
 }

@@ -1,43 +1,34 @@
 //! The two counting equations: what the cells of a table say that a cell should hold.
 
-ghost use Rattle.std.specs.Prelude.{◌≡◌, ℕ, ◌+◌, ◌-◌, ◌*◌, ◌^◌, ◌<◌, ◌≤◌, Bool, true, false, length};
-ghost use Rattle.theory.specs.Count.{left_of, right_of, if_left, sum_splits};
-ghost use Rattle.table.specs.Rows.{first_row, RowOf, place, cell_at};
+ghost use Rattle.std.specs.Prelude.{◌≡◌, ℕ, ◌+◌, ◌*◌, ◌^◌, ◌<◌, ◌≤◌, length, IfSome};
+ghost use Rattle.theory.specs.Count.{left_of, right_of, if_left, one_at, sum_splits};
+ghost use Rattle.table.specs.Rows.{first_row, rows, cell_at};
 ghost use Rattle.table.specs.Equations.{suffix_cell, equation};
-ghost use Rattle.table.specs.Terms.{from_cell, rest_count, byte_sum};
-ghost use Rattle.table.specs.Layouts.{Ready, ReadOf, read_sum, TermsRow};
+ghost use Rattle.table.specs.Terms.{from_cell, rest_cell, symbol_sum};
+ghost use Rattle.table.specs.Layouts.{AtRow, ReadOf, read_sum, SymbolRow, TermsRow};
 ghost use Rattle.table.specs.Filling.{Within};
+ghost use Rattle.table.specs.Seen.{grammar_of, bound_of};
 
 use crate::Row;
-use crate::layout::Layout;
-use grammar::Grammar;
+use crate::cells::Cells;
+use grammar::{Grammar, Symbol};
 
 /// The greatest count that a cell may hold, 2^63 - 1.
 const LIMIT: u64 = 0x7fff_ffff_ffff_ffff;
-
-/// The cell of a row for the length `m`.
-pub(crate) fn cell(bound: usize, cells: &[u64], row: usize, m: usize) -> u64
-    requires { (bound ≤ 48) × ((row ≤ 400) × ((m ≤ bound) × (place bound row m < length cells.now))) }
-    ensures { result ≡ cell_at bound cells.now row m }
-{
-    cells[row * (bound + 1) + m]
-}
 
 // `value` itself, unless it passes the limit.
 fn within_limit(value: u64) -> Option<u64>
     ensures { Within value result }
 {
-    if value > LIMIT { None } else { Some(value) }
+    (value <= LIMIT).then_some(value)
 }
 
 // `sum` and the product of `a` and `b`, unless that passes the limit.
 fn add_product(sum: u64, a: u64, b: u64) -> Option<u64>
-    requires { sum < 2 ^ 63 }
     ensures { Within (sum + a * b) result }
 {
     let product = a.checked_mul(b)?;
-    let total = sum.checked_add(product)?;
-    if total > LIMIT { None } else { Some(total) }
+    sum.checked_add(product).filter(|total| *total <= LIMIT)
 }
 
 // The sum over j from 0 to `m` of the cell j places from `first` times the cell `m` - j places from `rest`.
@@ -46,6 +37,7 @@ fn convolve(cells: &[u64], first: usize, rest: usize, m: usize) -> Option<u64>
     requires rest_inside { rest + m < length cells.now }
     ensures { Within (sum_splits (from_cell cells.now first) (from_cell cells.now rest) m) result }
 {
+    // By index: a chain of iterators over the two slices makes the whole check slower by a quarter.
     let mut sum = 0;
     for j in 0..=m {
         sum = add_product(sum, cells[first + j], cells[rest + (m - j)])?;
@@ -53,115 +45,106 @@ fn convolve(cells: &[u64], first: usize, rest: usize, m: usize) -> Option<u64>
     Some(sum)
 }
 
-// The sum for a suffix that begins with a terminal: the rest one shorter, which has the row `rest` unless it is empty.
-fn terminal_sum(bound: usize, cells: &[u64], empty: bool, rest: usize, m: usize) -> Option<u64>
-    requires small { (bound ≤ 48) × ((rest ≤ 400) × (m ≤ bound)) }
-    requires second { empty ≡ false → place bound rest bound < length cells.now }
-    ensures { Within (byte_sum bound cells.now 0 empty rest m) result }
-{
-    if m == 0 {
-        Some(0)
-    } else if empty {
-        Some(if m == 1 { 1 } else { 0 })
-    } else {
-        within_limit(cells[rest * (bound + 1) + (m - 1)])
-    }
-}
-
-// The sum over the splits of `m` between the symbol with that byte and the rest behind it, which has the row `rest` unless it is empty.
-fn suffix_sum(
-    bound: usize,
-    cells: &[u64],
-    symbol: u8,
-    empty: bool,
-    rest: usize,
-    m: usize,
-) -> Option<u64>
-    requires small { (bound ≤ 48) × ((rest ≤ 400) × (m ≤ bound)) }
-    requires first { 128 ≤ symbol → place bound (symbol - 128) bound < length cells.now }
-    requires second { empty ≡ false → place bound rest bound < length cells.now }
-    ensures { Within (byte_sum bound cells.now symbol empty rest m) result }
-{
-    if symbol < 128 {
-        return terminal_sum(bound, cells, empty, rest, m);
-    }
-    let first = (symbol - 128) as usize * (bound + 1);
-    if empty {
-        within_limit(cells[first + m])
-    } else {
-        convolve(cells, first, rest * (bound + 1), m)
-    }
-}
-
-/// What is read of a row's equation before its cells are looked at: the slots of a nonterminal, or the first symbol of a suffix and whether nothing stands behind it.
+/// What is read of a row's equation before its cells are looked at: the slots of a nonterminal, or the first symbol of a suffix and the row of the rest, none if that is empty.
 #[derive(Clone, Copy)]
 pub(crate) enum Terms {
     Slots(u8),
-    Split { symbol: u8, empty: bool },
+    Split { symbol: Symbol, rest: Option<usize> },
 }
 
-/// What is read of `row`.
-pub(crate) fn terms_of<G: Grammar>(g: &G, row: Row) -> Terms
-    requires { RowOf (G.meaning g.now) row }
-    ensures { ReadOf (G.meaning g.now) row result }
+/// What is read of `row`, which stands at `at`.
+pub(crate) fn terms_of<G: Grammar>(g: &G, row: Row, at: usize) -> Terms
+    requires { AtRow (G.meaning g.now) row at }
+    ensures { ReadOf (G.meaning g.now) row at result }
 {
     match row {
         Row::Nonterminal(a) => Terms::Slots(a),
         Row::Suffix { slot, position } => {
-            let Some(symbol) = g.symbol(slot, position) else {
-                unreachable()
-            };
-            let empty = position + 1 == g.length(slot);
-            Terms::Split { symbol, empty }
+            let symbol = g.symbol_at(slot, position).unwrap();
+            let rest = (position + 1 < g.length(slot)).then_some(at + 1);
+            Terms::Split { symbol, rest }
         }
     }
 }
 
-// What the cells say of the right-hand side of slot `s` at `m`, if it is one of a's, else 0.
-fn slot_count<G: Grammar>(g: &G, layout: &Layout, cells: &[u64], a: u8, s: u8, m: usize) -> u64
-    requires ready { Ready (G.meaning g.now) layout.now cells.now }
-    requires short { m ≤ layout.now.bound }
-    requires inside { s < (G.meaning g.now).slots }
-    ensures { result ≡ if_left (left_of ((G.meaning g.now).slot s)) a (suffix_cell layout.now.bound cells.now (right_of ((G.meaning g.now).slot s)) (first_row (G.meaning g.now) s) m) }
-{
-    if g.left(s) != Some(a) {
-        0
-    } else if g.length(s) == 0 {
-        if m == 0 { 1 } else { 0 }
-    } else {
-        cell(layout.bound, cells, layout.offsets[s as usize] as usize, m)
+impl<G: Grammar> Cells<'_, G> {
+    /// The cell of a row for the length `m`.
+    pub(crate) fn cell(&self, row: usize, m: usize) -> u64
+        requires row { row < rows (grammar_of self.now) }
+        requires short { m ≤ bound_of self.now }
+        ensures { result ≡ cell_at (bound_of self.now) self.now.cells.now row m }
+    {
+        self.cells[self.layout.place(row, m)]
     }
-}
 
-// The sum at `m` over the slots of `a`.
-fn slots_sum<G: Grammar>(g: &G, layout: &Layout, cells: &[u64], a: u8, m: usize) -> Option<u64>
-    requires ready { Ready (G.meaning g.now) layout.now cells.now }
-    requires short { m ≤ layout.now.bound }
-    ensures { Within (equation (G.meaning g.now) layout.now.bound cells.now (Row.Nonterminal a) m) result }
-{
-    let mut sum = 0;
-    for s in 0..g.slots() {
-        sum = add_product(sum, 1, slot_count(g, layout, cells, a, s, m))?;
+    // The sum for a suffix that begins with a terminal: its rest at one less.
+    fn terminal_sum(&self, rest: Option<usize>, m: usize) -> Option<u64>
+        requires rest { IfSome rest (λ r. r < rows (grammar_of self.now)) }
+        requires short { m ≤ bound_of self.now }
+        ensures { Within (sum_splits (one_at 1) (rest_cell (bound_of self.now) self.now.cells.now rest) m) result }
+    {
+        let Some(before) = m.checked_sub(1) else {
+            return Some(0);
+        };
+        match rest {
+            None => Some(if before == 0 { 1 } else { 0 }),
+            Some(rest) => within_limit(self.cell(rest, before)),
+        }
     }
-    Some(sum)
-}
 
-/// What the equation of the row `at`, of which `terms` was read, says of its cell at `m`, unless that passes the limit.
-pub(crate) fn sum_of<G: Grammar>(
-    g: &G,
-    layout: &Layout,
-    cells: &[u64],
-    terms: Terms,
-    at: usize,
-    m: usize,
-) -> Option<u64>
-    requires ready { Ready (G.meaning g.now) layout.now cells.now }
-    requires short { m ≤ layout.now.bound }
-    requires row { TermsRow (G.meaning g.now) terms at }
-    ensures { Within (read_sum (G.meaning g.now) layout.now.bound cells.now terms at m) result }
-{
-    match terms {
-        Terms::Slots(a) => slots_sum(g, layout, cells, a, m),
-        Terms::Split { symbol, empty } => suffix_sum(layout.bound, cells, symbol, empty, at + 1, m),
+    // The sum over the splits of `m` between a symbol and the rest behind it.
+    fn split_sum(&self, symbol: Symbol, rest: Option<usize>, m: usize) -> Option<u64>
+        requires first { SymbolRow (grammar_of self.now) symbol }
+        requires second { IfSome rest (λ r. r < rows (grammar_of self.now)) }
+        requires short { m ≤ bound_of self.now }
+        ensures { Within (symbol_sum (bound_of self.now) self.now.cells.now symbol rest m) result }
+    {
+        match (symbol, rest) {
+            (Symbol::Terminal(_), _) => self.terminal_sum(rest, m),
+            (Symbol::Nonterminal(a), None) => within_limit(self.cell(a as usize, m)),
+            (Symbol::Nonterminal(a), Some(rest)) => {
+                let width = self.layout.bound + 1;
+                convolve(self.cells, a as usize * width, rest * width, m)
+            }
+        }
+    }
+
+    /// What the cells say of the right-hand side of slot `s` at `m`, if it is one of a's, else 0.
+    pub(crate) fn slot_count(&self, a: u8, s: u8, m: usize) -> u64
+        requires inside { s < (grammar_of self.now).slots }
+        requires short { m ≤ bound_of self.now }
+        ensures { result ≡ if_left (left_of ((grammar_of self.now).slot s)) a (suffix_cell (bound_of self.now) self.now.cells.now (right_of ((grammar_of self.now).slot s)) (first_row (grammar_of self.now) s) m) }
+    {
+        if self.grammar.left(s) != Some(a) {
+            0
+        } else if self.grammar.length(s) == 0 {
+            if m == 0 { 1 } else { 0 }
+        } else {
+            self.cell(self.layout.offsets[s as usize] as usize, m)
+        }
+    }
+
+    // The sum at `m` over the slots of `a`.
+    fn slots_sum(&self, a: u8, m: usize) -> Option<u64>
+        requires { m ≤ bound_of self.now }
+        ensures { Within (equation (grammar_of self.now) (bound_of self.now) self.now.cells.now (Row.Nonterminal a) m) result }
+    {
+        let mut sum = 0;
+        for s in 0..self.grammar.slots() {
+            sum = add_product(sum, 1, self.slot_count(a, s, m))?;
+        }
+        Some(sum)
+    }
+
+    /// What the equation of the row of which `terms` was read says of its cell at `m`, unless that passes the limit.
+    pub(crate) fn sum_of(&self, terms: Terms, m: usize) -> Option<u64>
+        requires rows { TermsRow (grammar_of self.now) terms }
+        requires short { m ≤ bound_of self.now }
+        ensures { Within (read_sum (grammar_of self.now) (bound_of self.now) self.now.cells.now terms m) result }
+    {
+        match terms {
+            Terms::Slots(a) => self.slots_sum(a, m),
+            Terms::Split { symbol, rest } => self.split_sum(symbol, rest, m),
+        }
     }
 }

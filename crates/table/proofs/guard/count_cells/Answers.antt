@@ -4,4 +4,4 @@ use Rattle.table.proofs.guard.count_cells.Goals as goal
 
 pub fill_length-requires : goal.fill_length-requires
 fill_length-requires g c =
-    record { ready = record { table = keeps_table c.loop-m.invariant.3 c.requires.ready; short = omega arith; below = c.loop-m.invariant.4 } }
+    record { table = keeps_table c.loop-m.invariant.3 c.requires.ready; short = omega arith; below = c.loop-m.invariant.4 }

@@ -1,18 +1,16 @@
-use Rattle.std.proofs.Common.{subst, arith}
+use Rattle.std.proofs.Common.{IsSome, sym, subst, arith}
 use Rattle.table.specs.Rows.{RowOf}
 use Rattle.table.specs.declared.Row.{Row}
-use Rattle.table.proofs.Sides.{no_byte, side_six}
+use Rattle.table.proofs.Shown.{is_shown}
+use Rattle.table.proofs.Rows.{row_small}
 use Rattle.table.proofs.sums.terms_of.Goals as goal
 
-pub unreachable-requires : goal.unreachable-requires
-unreachable-requires g c =
-    let G = g.G.Grammar.meaning c.args.g.now in
-    let h = subst (λ (ρ : Row). RowOf G ρ) c.in-Suffix.is c.requires in
-    no_byte _ c.in-Suffix.position h.1 c.in_default.ensures
+pub unwrap-symbol-requires : goal.unwrap-symbol-requires
+unwrap-symbol-requires g c =
+    let h = subst (λ (ρ : Row). RowOf (g.G.Grammar.meaning c.args.g.now) ρ) c.in-Suffix.is c.requires.is_row in
+    subst (λ o. IsSome o) (sym c.symbol_at.ensures) (is_shown _ c.in-Suffix.position h.1)
 
-pub overflow_add-empty : goal.overflow_add-empty
-overflow_add-empty g c =
-    let G = g.G.Grammar.meaning c.args.g.now in
+pub overflow_add-at : goal.overflow_add-at
+overflow_add-at g c =
     let f = g.met.G.Grammar.implements c.args.g.now in
-    let h = subst (λ (ρ : Row). RowOf G ρ) c.in-Suffix.is c.requires in
-    omega (arith, side_six f.limits c.in-Suffix.slot, h.1)
+    omega (arith, row_small f.limits c.requires)

@@ -9,41 +9,34 @@ use Rattle.theory.specs.Count.{Count, count}
 use Rattle.theory.specs.Enumerate.{sentences}
 use Rattle.theory.proofs.Members.{in_at, exactly_unique, Placed, placed}
 use Rattle.theory.proofs.Listing.{sentences_just, sentences_exactly, rank_at, place_rank, rank_in_count, computed_count, sentences_length}
-use Rattle.table.specs.Reading.{counted_row, SoundCounts}
-use Rattle.table.specs.Checked.{Usable, CheckedAnswer}
-use Rattle.table.specs.declared.counts.Counts.{Counts}
-use Rattle.table.specs.declared.Row.TheVariants.{Nonterminal}
-use Rattle.table.proofs.RowCells.{row_long, row_count}
-use Rattle.expanding.specs.Writing.{Written}
+use Rattle.table.specs.Calls.{SamePast}
+use Rattle.table.specs.Checked.{Usable, Unusable}
 use Rattle.expanding.specs.Calls.{HasNumber, NoNumber, too_large, Expanded, SentenceAnswer, lent_by, unusable, no_number, ExpandAnswer}
 use Rattle.expanding.specs.Laws.{OneNumber}
 
 module _ {G : Cfg} {level : ℕ → ℕ} (ll : Ll1 G level) where
-  -- the cell of the start at n, as it is read, is its count
-  pub start_count : {counts : Counts} → SoundCounts G counts → (n A : ℕ) (row : List ℕ) → n ≤ counts.bound → A ≡ G.start → row ≡ counted_row counts (Nonterminal A)
-      → (n < length row) × (get_or row n 0 ≡ count G G.start n)
-  start_count {counts} sound n A row short a e =
-      let at : A < G.nonterminals = omega (arith, ll.limits.start_known) in (
-        omega (arith, ap length e, row_long ll sound (Nonterminal A) at),
-        ap {B = ℕ} (λ (r : List ℕ). get_or r n 0) e ∙ row_count ll sound (Nonterminal A) n at short ∙ ap {B = ℕ} (λ (B : ℕ). count G B n) a,
-      )
-
   -- a number that is not below the count
   pub no_number_of : (n k c : ℕ) (f : Fault) → c ≡ count G G.start n → f ≡ NumberTooLarge c → c ≤ k → NoNumber G n k f
   no_number_of n k c f e i l =
       subst (λ (x : Fault). NoNumber G n k x) (sym i) (too_large c (subst (λ (x : ℕ). Count G G.start n x) (sym e) (computed_count ll G.start n)) l)
 
 module _ {G : Cfg} {level : ℕ → ℕ} {order : LengthOrder} (ll : Ll1 G level) (lists : ListsLengths order) where
+  -- a number below the count is that of a sentence
+  sentence_at : (n k : ℕ) → k < count G G.start n → SentenceOf G G.start n (get_or (sentences order G G.start n) k [])
+  sentence_at n k l =
+      (sentences_just ll lists G.start n (get_or (sentences order G G.start n) k [])).0 (in_at [] (sentences order G G.start n) k (omega (arith, sentences_length ll lists G.start n)))
+
+  pub sentence_long : (n k : ℕ) → k < count G G.start n → length (get_or (sentences order G G.start n) k []) ≡ n
+  sentence_long n k l = (sentence_at n k l).1
+
   -- the sentence that is written has the rank of its number
-  pub expanded : (n k : ℕ) (before after : List ℕ) → k < count G G.start n → Written order G n k before after → Expanded order G n k before after
-  expanded n k before after l w =
-      let b : k < length (sentences order G G.start n) = omega (arith, sentences_length ll lists G.start n) in
-      let s = (sentences_just ll lists G.start n (get_or (sentences order G G.start n) k [])).0 (in_at [] (sentences order G G.start n) k b) in
-      record {
-        ranked = subst (λ (v : List ℕ). Rank G order G.start v k) (sym w.is) (rank_at ll lists G.start n k b);
-        long = ap length w.is ∙ s.1;
-        rest = w.rest;
-      }
+  pub expanded : (n k : ℕ) (before after : List ℕ) → k < count G G.start n → take n after ≡ get_or (sentences order G G.start n) k [] → SamePast n before after
+      → Expanded order G n k before after
+  expanded n k before after l is rest = record {
+    ranked = subst (λ (v : List ℕ). Rank G order G.start v k) (sym is) (rank_at ll lists G.start n k (omega (arith, sentences_length ll lists G.start n)));
+    long = ap length is ∙ sentence_long n k l;
+    rest = rest;
+  }
 
   -- a number that has been expanded is below the count
   has_number : (n k : ℕ) (before after : List ℕ) → Expanded order G n k before after → HasNumber G n k
@@ -59,11 +52,11 @@ module _ {G : Cfg} {level : ℕ → ℕ} {order : LengthOrder} (ll : Ll1 G level
 
   module _ {E : Type 0} {L : ℕ} {cells : List ℕ} {n k : ℕ} {stack : List E} {before after : List ℕ} where
     -- the table may not be used
-    pub unusable_answer : {T : Type 0} (f : Fault) → CheckedAnswer G L cells n (lent_by stack before) (Err f) → after ≡ before
+    pub unusable_answer : {T : Type 0} (f : Fault) → Unusable G L cells n (lent_by stack before) f → (Usable G L cells n (lent_by stack before) → ⊥) → after ≡ before
         → ExpandAnswer {T = T} order G L cells n k stack before after (Err f)
-    unusable_answer f h e = record {
-      answer = (unusable h.answer, e);
-      exactly = (λ i. let z : ◌≡◌ {A = ℕ} 0 1 = cc in absurd (omega arith), λ o. let i = h.exactly.1 o.0 in let z : ◌≡◌ {A = ℕ} 0 1 = cc in absurd (omega arith));
+    unusable_answer f u never e = record {
+      answer = (unusable u, e);
+      exactly = (λ i. let z : ◌≡◌ {A = ℕ} 0 1 = cc in absurd (omega arith), λ o. absurd (never o.0));
     }
 
     -- it may be used

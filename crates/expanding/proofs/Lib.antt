@@ -1,4 +1,5 @@
 pub mod Parts
 pub mod Steps
 pub mod Suspended
+pub mod Writing
 pub mod Calls

@@ -8,8 +8,7 @@ use Rattle.theory.specs.Order.{LengthOrder, ListsLengths}
 use Rattle.theory.specs.Count.{left_of, right_of, if_left, count, side_count}
 use Rattle.theory.specs.Enumerate.{sentences}
 use Rattle.theory.proofs.Counting.{slots_more}
-use Rattle.table.specs.Reading.{counted_row, side_ways, SoundCounts}
-use Rattle.table.specs.declared.counts.Counts.{Counts}
+use Rattle.table.specs.Reading.{numbered_row, row_cells, side_ways, SoundCells}
 use Rattle.table.specs.declared.Row.TheVariants.{Nonterminal, Suffix}
 use Rattle.table.proofs.Sides.{drop_next, nonterminal_known}
 use Rattle.table.proofs.RowCells.{row_long, row_count, row_low, ways_read}
@@ -54,11 +53,11 @@ pub no_more_products : {order : LengthOrder} → ListsLengths order → (f h : �
     → k < sum_listed f h m (order m) → ⊥
 no_more_products {order} lists f h m i k x l e o = omega (arith, split_inside f h m (order m) i k x e o, length_order lists m)
 
-module _ {G : Cfg} {level : ℕ → ℕ} (ll : Ll1 G level) {counts : Counts} (sound : SoundCounts G counts) where
-  module _ (A m s x k r : ℕ) (short : m ≤ counts.bound) (inside : s < G.slots) (is : k ≡ ways_before G A m s + x)
-      (read : r ≡ if_left (left_of (G.slot s)) A (side_ways (right_of (G.slot s)) (counted_row counts (Suffix s 0)) m)) where
+module _ {G : Cfg} {level : ℕ → ℕ} (ll : Ll1 G level) {L : ℕ} {cells firsts : List ℕ} (sound : SoundCells G L cells firsts) where
+  module _ (A m s x k r : ℕ) (short : m ≤ L) (inside : s < G.slots) (is : k ≡ ways_before G A m s + x)
+      (read : r ≡ if_left (left_of (G.slot s)) A (side_ways (right_of (G.slot s)) (row_cells L cells (numbered_row firsts (Suffix s 0))) m)) where
     read_ways : r ≡ if_left (left_of (G.slot s)) A (slot_ways G m s)
-    read_ways = read ∙ ap (λ (n : ℕ). if_left (left_of (G.slot s)) A n) (ways_read ll sound s m inside short)
+    read_ways = read ∙ ap (λ (n : ℕ). if_left (left_of (G.slot s)) A n) (ways_read sound s m inside short)
 
     -- a rank below the ways of the slot
     pub opened : x < r → Opened G A m k (record { slot = s; position = 0; length = m; rank = x })
@@ -69,6 +68,15 @@ module _ {G : Cfg} {level : ℕ → ℕ} (ll : Ll1 G level) {counts : Counts} (s
     -- what is left behind them
     pub behind_slot : (b : ℕ) → x ≡ r + b → k ≡ ways_before G A m (s + 1) + b
     behind_slot b e = omega (arith, slots_more G A (slot_ways G m) s, read_ways)
+
+  -- the cell of the start at n, as it is read, is its count
+  pub start_count : (n A : ℕ) (row : List ℕ) → n ≤ L → A ≡ G.start → row ≡ row_cells L cells (numbered_row firsts (Nonterminal A))
+      → (n < length row) × (get_or row n 0 ≡ count G G.start n)
+  start_count n A row short a e =
+      let at : A < G.nonterminals = omega (arith, ll.limits.start_known) in (
+        omega (arith, ap length e, row_long sound (Nonterminal A) at),
+        ap {B = ℕ} (λ (r : List ℕ). get_or r n 0) e ∙ row_count sound (Nonterminal A) n at short ∙ ap {B = ℕ} (λ (B : ℕ). count G B n) a,
+      )
 
   -- nothing is left behind all slots
   pub no_more_slots : (A m s k x : ℕ) → s ≡ G.slots → k ≡ ways_before G A m s + x → k < count G A m → ⊥
@@ -123,21 +131,21 @@ module _ {G : Cfg} {level : ℕ → ℕ} {order : LengthOrder} (ll : Ll1 G level
   }
 
   -- the two rows, as they are read
-  pub rows_for : {counts : Counts} → SoundCounts G counts → FrameOf order G counts.bound f → f.position + 1 < length (side_of G (place_of f))
-      → {first rest : List ℕ} → first ≡ counted_row counts (Nonterminal A) → rest ≡ counted_row counts (Suffix f.slot (f.position + 1))
+  pub rows_for : {L : ℕ} {cells firsts : List ℕ} → SoundCells G L cells firsts → FrameOf order G L f → f.position + 1 < length (side_of G (place_of f))
+      → {first rest : List ℕ} → first ≡ row_cells L cells (numbered_row firsts (Nonterminal A)) → rest ≡ row_cells L cells (numbered_row firsts (Suffix f.slot (f.position + 1)))
       → RowsFor order G f A first rest
-  rows_for {counts} sound fr more {first} {rest} a b =
+  rows_for sound fr more {first} {rest} a b =
       let G-row = nonterminal_known ll.limits f.slot f.position A (suffix_of G (next_place (place_of f))) at in
       let counted : CountedBy G A (suffix_of G (next_place (place_of f))) f.length (cell_of first) (cell_of rest) = record {
-        first = λ j l. ap {B = ℕ} (λ (row : List ℕ). cell_of row j) a ∙ row_count ll sound (Nonterminal A) j G-row (omega (arith, fr.short));
-        rest = λ k l. ap {B = ℕ} (λ (row : List ℕ). cell_of row k) b ∙ row_count ll sound (Suffix f.slot (f.position + 1)) k (fr.filled, more) (omega (arith, fr.short));
+        first = λ j l. ap {B = ℕ} (λ (row : List ℕ). cell_of row j) a ∙ row_count sound (Nonterminal A) j G-row (omega (arith, fr.short));
+        rest = λ k l. ap {B = ℕ} (λ (row : List ℕ). cell_of row k) b ∙ row_count sound (Suffix f.slot (f.position + 1)) k (fr.filled, more) (omega (arith, fr.short));
       } in
       let whole = ap {B = ℕ} (λ (v : List Symbol). length (ways order G v f.length)) at in
       let wide = ap {B = ℕ} (λ (v : List Symbol). side_count (count G) v f.length) at in
       record {
-        first_long = omega (arith, ap length a, row_long ll sound (Nonterminal A) G-row, fr.short);
-        rest_long = omega (arith, ap length b, row_long ll sound (Suffix f.slot (f.position + 1)) (fr.filled, more), fr.short);
+        first_long = omega (arith, ap length a, row_long sound (Nonterminal A) G-row, fr.short);
+        rest_long = omega (arith, ap length b, row_long sound (Suffix f.slot (f.position + 1)) (fr.filled, more), fr.short);
         counted = counted;
         low = omega (arith, fr.low, whole, sum_ways ll lists counted);
-        within = omega (arith, sum_count ll lists counted, wide, row_low ll sound (Suffix f.slot f.position) f.length (fr.filled, omega arith) fr.short);
+        within = omega (arith, sum_count ll lists counted, wide, row_low sound (Suffix f.slot f.position) f.length (fr.filled, omega arith) fr.short);
       }

@@ -1,65 +1,60 @@
--- The steps of the writing of a sentence, where the suspended frames are on a stack. Assumes nothing.
-use Rattle.std.proofs.Common.{◌≡◌, ℕ, ◌+◌, ◌-◌, ◌*◌, ◌<◌, ◌≤◌, List, [], ◌∷◌, map, length, get_or, Some, None, sym, ap, ◌∙◌, subst, arith}
-use Rattle.theory.specs.Grammar.{Cfg}
+-- The steps of an expansion, where the suspended frames are on a stack. Assumes nothing.
+use Rattle.std.proofs.Common.{◌≡◌, ℕ, ◌<◌, List, [], ◌∷◌, map, length, Some, None, sym, ap, ◌∙◌, subst, arith, length-set}
 use Rattle.theory.specs.Sound.{Ll1}
 use Rattle.theory.specs.Order.{LengthOrder, ListsLengths}
-use Rattle.theory.specs.Enumerate.{sentences}
-use Rattle.grammar.specs.Interface.{byte_at}
+use Rattle.grammar.specs.declared.Grammar.{Ghosts}
+use Rattle.grammar.specs.declared.Symbol.TheVariants as value
+use Rattle.stack.specs.declared.Stack.{Stack}
 use Rattle.stack.specs.Held.{held, Put, Taken, Empty}
 use Rattle.stack.proofs.Tops.{held_none, held_length}
-use Rattle.walk.specs.Depth.{side_of}
+use Rattle.table.specs.CountsOf.{grammar_of, bound_of}
 use Rattle.walk.specs.Measure.{measure}
 use Rattle.expanding.specs.declared.frame.Frame.{Frame}
 use Rattle.expanding.specs.declared.frame.Part.{Part}
-use Rattle.expanding.specs.Frames.{rest_frame, place_of}
+use Rattle.expanding.specs.declared.expansion.Expansion.{Expansion}
+use Rattle.expanding.specs.Frames.{rest_frame, place_of, all_to_write}
 use Rattle.expanding.specs.Dividing.{Opened, Parted}
-use Rattle.expanding.specs.Writing.{Writing}
-use Rattle.expanding.proofs.Steps.{begin, close_step, close_less, open_room, open_step, open_less}
+use Rattle.expanding.specs.Expansions.{ExpansionAt, room_of, symbol_here, Stands, to_come, measure_of, Goes}
+use Rattle.expanding.proofs.Steps.{close_step, close_same, close_less, open_room, open_step, open_same, open_less}
 
--- the first frame, over an empty stack
-pub begin_stack : {G : Cfg} {level : ℕ → ℕ} {order : LengthOrder} → Ll1 G level → ListsLengths order → (L n k : ℕ) (before : List ℕ) (f : Frame) (s : List Frame) (d : ℕ) → d ≡ 0
-    → n ≤ L → (A : ℕ) → A ≡ G.start → Opened G A n k f → Writing order G level L n (get_or (sentences order G G.start n) k []) before (f ∷ held s d) before 0
-begin_stack {G} {level} {order} ll lists L n k before f s d e short A a o =
-    let none : [] ≡ held s d = sym (ap {B = List Frame} (λ (x : ℕ). held s x) e ∙ held_none s) in
-    subst (λ (hs : List Frame). Writing order G level L n (get_or (sentences order G G.start n) k []) before (f ∷ hs) before 0) none
-    (begin ll lists L n k before f short (subst (λ (B : ℕ). Opened G B n k f) a o))
+module _ {T U : Type 0} {members : Ghosts T} (order : U → LengthOrder) (d : Expansion T U members)
+    (ll : Ll1 (grammar_of d.unranking.counts.now) (members.levels d.unranking.counts.now.grammar.now)) (lists : ListsLengths (order d.unranking.policy.now)) (st : Stands order d) where
+  -- d with another frame at work, over other suspended ones
+  abbrev with_frames : Frame → Stack Frame → Expansion T U members
+  with_frames f s = record { unranking = d.unranking; suspended = s; frame = f }
 
-module _ {G : Cfg} {level : ℕ → ℕ} {order : LengthOrder} (ll : Ll1 G level) (lists : ListsLengths order) {L n : ℕ} {w before : List ℕ} where
-  module _ (f : Frame) (s : List Frame) (d : ℕ) (output : List ℕ) (written : ℕ) (st : Writing order G level L n w before (f ∷ held s d) output written) where
-    module _ (e : None ≡ byte_at (side_of G (place_of f)) f.position) where
-      -- the frame at work is done, and so is the stack
-      pub end_step : (t : List Frame) (d' : ℕ) → Empty s d t d' → Writing order G level L n w before [] output written
-      end_step t d' h =
-          subst (λ (hs : List Frame). Writing order G level L n w before hs output written) (ap {B = List Frame} (λ (x : ℕ). held s x) h.was_empty ∙ held_none s)
-          (close_step ll lists f (held s d) output written st e)
+  -- a step to the frames fs, with the same room
+  steps : (f : Frame) (s : Stack Frame) (fs : List Frame) → f ∷ held s ≡ fs → length s.entries.now ≡ room_of d
+      → ExpansionAt (order d.unranking.policy.now) (grammar_of d.unranking.counts.now) (members.levels d.unranking.counts.now.grammar.now) (bound_of d.unranking.counts.now) (room_of d) fs
+      → all_to_write (order d.unranking.policy.now) (grammar_of d.unranking.counts.now) fs ≡ to_come order d
+      → measure (grammar_of d.unranking.counts.now) (room_of d) (map place_of fs) < measure_of d → Goes order d (with_frames f s)
+  steps f s fs is e at same falls = record {
+    at = rw (is, e) at;
+    same = subst (λ (gs : List Frame). all_to_write (order d.unranking.policy.now) (grammar_of d.unranking.counts.now) gs ≡ to_come order d) (sym is) same;
+    falls = rw e (subst (λ (gs : List Frame). measure (grammar_of d.unranking.counts.now) (room_of d) (map place_of gs) < measure_of d) (sym is) falls);
+  }
 
-      module _ (g : Frame) (t : List Frame) (d' : ℕ) (h : Taken g s d t d') where
-        -- the frame at work is done, and the top of the stack goes on
-        pub pop_step : Writing order G level L n w before (g ∷ held t d') output written
-        pop_step = subst (λ (hs : List Frame). Writing order G level L n w before hs output written) h.holds (close_step ll lists f (held s d) output written st e)
+  module _ (e : None ≡ symbol_here d) {t : Stack Frame} where
+    -- the frame at work is done, and the last suspended one goes on
+    pub pop_step : {g : Frame} → Taken g d.suspended t → Goes order d (with_frames g t)
+    pop_step {g} h = steps g t (held d.suspended) (sym h.holds) (ap length h.entries) (close_step ll lists st e) (close_same ll lists st e) (close_less ll lists st e)
 
-        pub pop_less : measure G ((n + 1) * G.nonterminals) (map place_of (g ∷ held t d')) < measure G ((n + 1) * G.nonterminals) (map place_of (f ∷ held s d))
-        pop_less =
-            subst (λ (hs : List Frame). measure G ((n + 1) * G.nonterminals) (map place_of hs) < measure G ((n + 1) * G.nonterminals) (map place_of (f ∷ held s d))) h.holds
-            (close_less ll lists f (held s d) output written st e)
+    -- the frame at work is done, and none is suspended
+    pub end_step : Empty d.suspended t → (to_come order d ≡ []) × (to_come order (with_frames d.frame t) ≡ [])
+    end_step h =
+        let before = held_none d.suspended h.was_empty in
+        let nothing = sym (close_same ll lists (rw before at st) e) in
+        (rw before nothing, rw (held_none t h.is_empty) nothing)
 
-    module _ (b : ℕ) (e : Some b ≡ byte_at (side_of G (place_of f)) f.position) (high : 128 ≤ b) where
-      -- the stack has room for one more
-      pub push_room : d ≤ length s → (n + 1) * G.nonterminals ≤ length s → d < length s
-      push_room inside enough = omega (arith, open_room ll lists f (held s d) output written st b e high, held_length s d inside)
+  module _ (A : ℕ) (e : Some (value.Nonterminal A) ≡ symbol_here d) where
+    -- the stack has room for one more
+    pub push_room : d.suspended.depth < room_of d
+    push_room = omega (arith, open_room ll lists st A e, held_length d.suspended)
 
-      module _ (p : Part) (g h : Frame) (t : List Frame) (d' : ℕ) (parted : Parted order G f (b - 128) p) (o : Opened G (b - 128) p.length p.rank g)
-          (is : h ≡ rest_frame f p) (put : Put h s d t d') where
-        holds : held t d' ≡ rest_frame f p ∷ held s d
-        holds = put.holds ∙ ap {B = List Frame} (λ (x : Frame). x ∷ held s d) is
-
-        -- a frame is opened, and the rest of the frame at work is suspended
-        pub push_step : Writing order G level L n w before (g ∷ held t d') output written
-        push_step =
-            subst (λ (hs : List Frame). Writing order G level L n w before (g ∷ hs) output written) (sym holds)
-            (open_step ll lists f (held s d) output written st b e high p g parted o)
-
-        pub push_less : measure G ((n + 1) * G.nonterminals) (map place_of (g ∷ held t d')) < measure G ((n + 1) * G.nonterminals) (map place_of (f ∷ held s d))
-        push_less =
-            subst (λ (hs : List Frame). measure G ((n + 1) * G.nonterminals) (map place_of (g ∷ hs)) < measure G ((n + 1) * G.nonterminals) (map place_of (f ∷ held s d))) (sym holds)
-            (open_less ll lists f (held s d) output written st b e high p g parted o)
+    -- a frame is opened, and the rest of the frame at work is suspended
+    pub push_step : {p : Part} {g h : Frame} {t : Stack Frame} → Parted (order d.unranking.policy.now) (grammar_of d.unranking.counts.now) d.frame A p
+        → Opened (grammar_of d.unranking.counts.now) A p.length p.rank g → h ≡ rest_frame d.frame p → Put h d.suspended t → Goes order d (with_frames g t)
+    push_step {p} {g} {h} {t} parted o is put =
+        steps g t (g ∷ rest_frame d.frame p ∷ held d.suspended) (ap {B = List Frame} (λ (fs : List Frame). g ∷ fs) (put.holds ∙ ap {B = List Frame} (λ (x : Frame). x ∷ held d.suspended) is))
+        (ap length put.entries ∙ length-set d.suspended.entries.now d.suspended.depth h) (open_step ll lists st A e p g parted o) (open_same ll lists st A e p g parted o)
+        (open_less ll lists st A e p g parted o)

@@ -1,5 +1,5 @@
 pub mod Frames
 pub mod Dividing
-pub mod Writing
+pub mod Expansions
 pub mod Calls
 pub mod Laws

@@ -39,10 +39,9 @@ impl Frame {
         ensures { result ≡ past_token self }
     {
         Frame {
-            slot: self.slot,
             position: self.position + 1,
             length: self.length - 1,
-            rank: self.rank,
+            ..self
         }
     }
 
@@ -52,10 +51,10 @@ impl Frame {
         ensures { result ≡ rest_frame self part }
     {
         Frame {
-            slot: self.slot,
             position: self.position + 1,
             length: self.length - part.length,
             rank: part.rest,
+            ..self
         }
     }
 }

@@ -6,30 +6,31 @@ ghost use Rattle.std.specs.Prelude.{◌≡◌, ℕ, ◌+◌, ◌*◌, ◌<◌, �
 ghost use Rattle.fault.specs.declared.Fault.TheVariants.{NumberTooLarge};
 ghost use Rattle.theory.specs.Order.{ascending};
 ghost use Rattle.table.specs.Checked.{CheckedAnswer};
-ghost use Rattle.table.specs.Reading.{SoundCounts};
+ghost use Rattle.table.specs.CountsOf.{grammar_of, bound_of};
 ghost use Rattle.expanding.specs.Calls.{SentenceAnswer, ExpandAnswer};
 ghost use Rattle.expanding.specs.Laws.{EachSentenceHasOneNumber};
 
+use dividing::Unranking;
+use expansion::Expansion;
 use fault::Fault;
 pub use frame::Frame;
 use grammar::Grammar;
-use table::{Counts, Lent, Row, Table};
+use table::{Counts, Lent, Table};
 use walk::{LengthPolicy, ShortestFirst};
-use writing::write;
 
 mod dividing;
+mod expansion;
 mod frame;
-mod writing;
 
 // The counts of the table, if it may be used to write a sentence of that length with so many entries of a stack, to so many bytes.
 fn counts_of<'a, G: Grammar>(
-    g: &G,
+    g: &'a G,
     table: &'a Table<'_>,
     n: usize,
     stack: usize,
     output: usize,
-) -> Result<Counts<'a>, Fault>
-    ensures { CheckedAnswer (G.meaning g.now) table.now.bound table.now.cells.now n (record { stack = Some stack; output = Some output }) result }
+) -> Result<Counts<'a, G>, Fault>
+    ensures { CheckedAnswer g.now table.now.bound table.now.cells.now n (record { stack = Some stack; output = Some output }) result }
 {
     let lent = Lent {
         stack: Some(stack),
@@ -51,40 +52,23 @@ fn below_count(number: u64, count: u64) -> Result<(), Fault>
 
 // Writes the sentence of the start of length `n` with that number, if the number is below the count.
 fn write_numbered<G: Grammar, O: LengthPolicy>(
-    g: &G,
-    policy: &O,
-    counts: &Counts<'_>,
+    unranking: Unranking<'_, G, O>,
     n: usize,
     number: u64,
     stack: &mut [Frame],
     output: &mut [u8],
 ) -> Result<(), Fault>
-    requires sound { SoundCounts (G.meaning g.now) counts.now }
-    requires short { n ≤ counts.now.bound }
-    requires stack { (n + 1) * (G.meaning g.now).nonterminals ≤ length stack.old }
+    requires short { n ≤ bound_of unranking.counts.now }
+    requires stack { (n + 1) * (grammar_of unranking.counts.now).nonterminals ≤ length stack.old }
     requires output { n ≤ length output.old }
-    ensures { SentenceAnswer (O.order policy.now) (G.meaning g.now) n number output.old output.new result }
+    ensures { SentenceAnswer (O.order unranking.entry.policy.now) (grammar_of unranking.entry.counts.now) n number output.old output.new result }
 {
-    let count = counts.row(Row::Nonterminal(g.start()))[n];
-    below_count(number, count)?;
-    write(g, policy, counts, n, number, stack, output);
+    below_count(number, unranking.start_count(n))?;
+    let sentence = Expansion::begin(unranking, n, number, stack);
+    for (place, token) in sentence.enumerate() {
+        output[place] = token;
+    }
     Ok(())
-}
-
-// Expands a number in the order of part lengths that the policy gives.
-fn expand_by<G: Grammar, O: LengthPolicy>(
-    g: &G,
-    policy: &O,
-    table: &Table<'_>,
-    n: usize,
-    number: u64,
-    stack: &mut [Frame],
-    output: &mut [u8],
-) -> Result<(), Fault>
-    ensures { ExpandAnswer (O.order policy.now) (G.meaning g.now) table.now.bound table.now.cells.now n number stack.old output.old output.new result }
-{
-    let counts = counts_of(g, table, n, stack.len(), output.len())?;
-    write_numbered(g, policy, &counts, n, number, stack, output)
 }
 
 /// Writes the sentence of the start of that length and number to the front of the output, one byte for each token.
@@ -103,7 +87,12 @@ pub fn expand<G: Grammar>(
 ) -> Result<(), Fault>
     ensures { ExpandAnswer ascending (G.meaning g.now) table.now.bound table.now.cells.now length number stack.old output.old output.new result }
 {
-    expand_by(g, &ShortestFirst, table, length, number, stack, output)
+    let counts = counts_of(g, table, length, stack.len(), output.len())?;
+    let unranking = Unranking {
+        counts: &counts,
+        policy: &ShortestFirst,
+    };
+    write_numbered(unranking, length, number, stack, output)
 }
 
 /// Each sentence has exactly one number: it is below the count, an expansion of it that succeeds leaves that sentence, and no other number does.

@@ -12,6 +12,7 @@ pub trait LengthPolicy {
     ghost order: { Self → LengthOrder };
 
     /// The length at place `i` of the lengths 0 to `m`; 0 past the end.
+    // No `Option`: each caller goes through the places up to `m`, and would unwrap.
     fn length_at(&self, m: usize, i: usize) -> usize
         ensures { result ≡ slice_index (order self.now m) i };
 

@@ -1,4 +1,4 @@
-use Rattle.std.proofs.Common.{arith}
+use Rattle.std.proofs.Common.{◌-◌, arith}
 use Rattle.walk.proofs.Splits.{listed_none, right_factor_positive}
 use Rattle.expanding.specs.Dividing.{cell_of}
 use Rattle.expanding.proofs.Parts.{length_short, product_in_sum, behind_product, divided, no_more_products}
@@ -30,19 +30,19 @@ overflow_mul-first g c =
 pub quotient_part-requires : goal.quotient_part-requires
 quotient_part-requires g c =
     let l = length_short (g.met.O.LengthPolicy.lists c.args.policy.now) c.args.m c.loop-i.i c.length_at-length.result (omega arith) c.length_at-length.ensures in
-    (omega (arith, c.requires.small), right_factor_positive c.loop-i.left (cell_of c.args.first.now c.length_at-length.result) _ c.in-None.ensures)
+    (omega (arith, c.requires.small), right_factor_positive c.loop-i.left (cell_of c.args.first.now c.length_at-length.result) (cell_of c.args.rest.now (c.args.m - c.length_at-length.result)) (omega (arith, c.in-None.ensures)))
 
 pub returns-in-None : goal.returns-in-None
 returns-in-None g c =
     divided (g.met.O.LengthPolicy.lists c.args.policy.now) (cell_of c.args.first.now) (cell_of c.args.rest.now) c.args.m c.loop-i.i
     c.length_at-length.result (omega arith) c.length_at-length.ensures c.args.rank c.loop-i.left c.quotient_part.result
-    c.loop-i.invariant c.in-None.ensures c.quotient_part.ensures.length c.quotient_part.ensures.rank c.quotient_part.ensures.rest
+    c.loop-i.invariant (omega (arith, c.in-None.ensures)) c.quotient_part.ensures.length c.quotient_part.ensures.rank c.quotient_part.ensures.rest
 
 pub loop-i-preserved : goal.loop-i-preserved
 loop-i-preserved g c =
     behind_product (g.met.O.LengthPolicy.lists c.args.policy.now) (cell_of c.args.first.now) (cell_of c.args.rest.now) c.args.m c.loop-i.i
     c.length_at-length.result (omega arith) c.length_at-length.ensures c.args.rank c.loop-i.left c.in-Some.behind
-    c.loop-i.invariant c.in-Some.ensures
+    c.loop-i.invariant (omega (arith, c.in-Some.ensures))
 
 pub unreachable-requires : goal.unreachable-requires
 unreachable-requires g c =

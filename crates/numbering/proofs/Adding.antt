@@ -1,7 +1,7 @@
 -- How the parts of symbols add up, from the last to the first. Assumes nothing.
-use Rattle.std.proofs.Common.{◌≡◌, ℕ, zero, suc, ◌+◌, ◌-◌, ◌<◌, ◌≤◌, List, [], ◌∷◌, length, get_or, drop, Some, sym, refl, ap, ◌∙◌, subst, ap₂, ⊎_elim, add-zero, add-one, arith, length-append, length-drop}
-use Rattle.std.proofs.lemmas.Bool.{cases_eq, eq-eqb, ne_eqb}
-use Rattle.std.proofs.lemmas.List.{drop-drop, get_or-drop}
+use Rattle.std.proofs.Common.{◌≡◌, ℕ, zero, suc, ◌+◌, ◌-◌, ◌<◌, ◌≤◌, List, [], ◌∷◌, length, get_or, drop, Some, sym, ap, ◌∙◌, subst, ap₂, ⊎_elim, add-one, arith, length-append, drop-cons}
+use Rattle.std.proofs.lemmas.Bool.{cases_eq, cases_lt, eq-eqb, ne_eqb}
+use Rattle.std.proofs.lemmas.List.{drop_all}
 use Rattle.theory.specs.Lists.{joined}
 use Rattle.theory.specs.Grammar.{Symbol, terminal, nonterminal, Cfg}
 use Rattle.theory.specs.Sound.{Ll1}
@@ -13,48 +13,15 @@ use Rattle.theory.proofs.Listing.{sentences_just, ways_just}
 use Rattle.walk.specs.Ways.{ways, CountedBy, ways_before}
 use Rattle.walk.proofs.Ways.{ways_none, terminal_length, terminal_nth, last_length, last_nth, split_nth, split_in_ways}
 use Rattle.walk.proofs.Slots.{slot_in_sentences, slot_nth}
-use Rattle.numbering.specs.Parts.{no_part, frame_side, PartOf, part_tokens, AllParts, all_tokens, AddsUp, entry_at, Joins, WholePart}
+use Rattle.numbering.specs.Parts.{no_part, frame_side, PartOf, part_tokens, AllParts, all_tokens, AddsUp, AddsUpFrom, entry_at, Joins, WholePart}
 use Rattle.numbering.specs.declared.frame.Part.{Part}
 use Rattle.numbering.specs.declared.frame.Frame.{Frame}
 
--- what is left behind the first that is left
-drop_behind : {E : Type 0} (xs : List E) (p : ℕ) (x : E) (ys : List E) → drop p xs ≡ x ∷ ys → drop (p + 1) xs ≡ ys
-drop_behind {E} xs p x ys e = sym (drop-drop 1 p xs) ∙ ap {B = List E} (drop 1) e
-
--- the first that is left
-drop_first : {E : Type 0} (xs : List E) (p : ℕ) (x d : E) (ys : List E) → drop p xs ≡ x ∷ ys → get_or xs p d ≡ x
-drop_first {E} xs p x d ys e =
-    ap {B = E} (λ (i : ℕ). get_or xs i d) (sym (add-zero p)) ∙ sym (get_or-drop p xs 0 d) ∙ ap {B = E} (λ (zs : List E). get_or zs 0 d) e
-
--- the symbol at a position, its part, and what is behind
-pub record NextPart (order : LengthOrder) (G : Cfg) (Ys : List Symbol) (ds : List Part) (p : ℕ) : Type 0 where
-  pub symbol : Symbol
-  pub part : Part
-  pub suffix : drop p Ys ≡ symbol ∷ drop (p + 1) Ys
-  pub parts : drop p ds ≡ part ∷ drop (p + 1) ds
-  pub of : PartOf order G symbol part
-  pub rest : AllParts order G (drop (p + 1) Ys) (drop (p + 1) ds)
-  pub read : (d : Part) → get_or ds p d ≡ part
-
--- where the symbols from a position on have their parts, the one at the position has
-pub next_part : (order : LengthOrder) (G : Cfg) (Ys : List Symbol) (ds : List Part) (p : ℕ) → p < length Ys → AllParts order G (drop p Ys) (drop p ds) → NextPart order G Ys ds p
-next_part order G Ys ds p l a = go (drop p Ys) (drop p ds) refl refl a
-  where
-    go : (V : List Symbol) (es : List Part) → drop p Ys ≡ V → drop p ds ≡ es → AllParts order G V es → NextPart order G Ys ds p
-    go [] es i j h = absurd (omega (arith, length-drop p Ys, ap length i))
-    go (X ∷ V) [] i j h = absurd h
-    go (X ∷ V) (d ∷ es) i j h =
-        let v = drop_behind Ys p X V i in
-        let e = drop_behind ds p d es j in
-        record {
-          symbol = X;
-          part = d;
-          suffix = i ∙ ap {B = List Symbol} (λ (Zs : List Symbol). X ∷ Zs) (sym v);
-          parts = j ∙ ap {B = List Part} (λ (zs : List Part). d ∷ zs) (sym e);
-          of = h.0;
-          rest = subst (λ (Zs : List Symbol). AllParts order G Zs (drop (p + 1) ds)) (sym v) (subst (λ (zs : List Part). AllParts order G V zs) (sym e) h.1);
-          read = λ x. drop_first ds p d x es j;
-        }
+-- where the symbols from a position on have their parts, the one there has the part at that position
+pub part_there : (order : LengthOrder) (G : Cfg) (X : Symbol) (Xs : List Symbol) (p : ℕ) (ds : List Part) → AllParts order G (X ∷ Xs) (drop p ds)
+    → drop p ds ≡ get_or ds p no_part ∷ drop (suc p) ds
+part_there order G X Xs p ds a =
+    ⊎_elim (λ (l : p < length ds). drop-cons ds p no_part l) (λ l. absurd (rw (drop_all p ds l) at a)) (cases_lt p (length ds))
 
 -- the symbols from any position on have their parts
 pub parts_drop : (order : LengthOrder) (G : Cfg) (p : ℕ) (Ys : List Symbol) (ds : List Part) → AllParts order G Ys ds → AllParts order G (drop p Ys) (drop p ds)
@@ -110,8 +77,9 @@ module _ {G : Cfg} {level : ℕ → ℕ} {order : LengthOrder} (ll : Ll1 G level
       length-append (part_tokens order G X d) (joined (all_tokens order G Xs ds)) ∙ omega (arith, part_length X d l, sum_length Xs ds u a)
 
   -- no symbols add up to a part of no tokens
-  pub add_none : (Xs : List Symbol) (ds : List Part) → Xs ≡ [] → AddsUp order G Xs ds no_part
-  add_none Xs ds e = subst (λ (V : List Symbol). AddsUp order G V ds no_part) (sym e)
+  pub add_none : (f : Frame) (p : ℕ) → length (frame_side G f) ≤ p → AddsUpFrom order G f p no_part
+  add_none f p l =
+      rw (drop_all p (frame_side G f) l)
       (record { low = omega (arith, ap {B = ℕ} length (ways_none order G)); is = ap {B = List (List ℕ)} (λ (l : List (List (List ℕ))). get_or l 0 []) (ways_none order G) })
 
   -- a terminal adds one to the length, and leaves the rank

@@ -1,6 +1,8 @@
 -- Where each step of a parse leads: a token goes, a frame is opened, a frame is closed, or the parse ends. Assumes nothing.
-use Rattle.std.proofs.Common.{◌≡◌, ℕ, zero, suc, ◌+◌, ◌-◌, ◌*◌, ◌<◌, ◌≤◌, List, [], ◌∷◌, ◌++◌, map, length, get_or, take, drop, set, Some, None, Option, sym, refl, ap, ◌∙◌, subst, ⊎_elim, append_assoc, append-nil, mul-le-mul_right, add-one, arith, length-append, length-set}
-use Rattle.std.proofs.lemmas.Bool.{cases_lt}
+use Rattle.std.proofs.Common.{◌≡◌, ℕ, zero, suc, true, false, not, eqb, ◌+◌, ◌*◌, ◌<◌, ◌≤◌, List, [], ◌∷◌, ◌++◌, map, length, get_or, take, drop, set, Some, None, Option, sym, refl, ap, ◌∙◌, subst, ⊎_elim, append_assoc, append-nil, mul-le-mul_right, add-one, arith, length-append, length-set}
+use Rattle.std.specs.List.{slice_get}
+use Rattle.std.specs.Option.{option_eq}
+use Rattle.std.proofs.lemmas.Bool.{cases_eq, cases_lt, eq-eqb, ne_eqb}
 use Rattle.std.proofs.lemmas.List.{drop_all, drop_more, take_all, take_more, length-take-le}
 use Rattle.theory.specs.Lists.{joined}
 use Rattle.theory.specs.Grammar.{Symbol, terminal, nonterminal, Cfg}
@@ -8,14 +10,17 @@ use Rattle.theory.specs.Sets.{Next, token, next_of}
 use Rattle.theory.specs.Order.{LengthOrder, ListsLengths, Rank}
 use Rattle.theory.specs.Count.{left_of}
 use Rattle.theory.proofs.Listing.{rank_at}
-use Rattle.grammar.specs.Interface.{byte_of, byte_at, Implements}
+use Rattle.grammar.specs.Symbols.{symbol_at}
+use Rattle.grammar.specs.declared.Symbol.TheVariants as value
+use Rattle.grammar.specs.Interface.{next_of_lookahead, Implements}
 use Rattle.grammar.proofs.Derived.{ll1_of}
-use Rattle.table.proofs.Sides.{symbol_at, is_terminal, is_nonterminal, no_byte, side_six}
+use Rattle.table.proofs.Sides.{side_six}
 use Rattle.walk.specs.Depth.{suffix_of, Chain, top, above}
 use Rattle.walk.proofs.Depth.{begin_chain, pass_token, open_frame, close_frame, depth_bound, room}
 use Rattle.walk.proofs.Measure.{further_falls, open_falls, close_falls}
 use Rattle.parser.specs.Parser.{StopsAfter, tokens_left, other_token, no_choice}
 use Rattle.parser.proofs.Steps.{ComesTo, comes_first, comes_match, comes_replace, comes_stop}
+use Rattle.grammar.proofs.Symbols.{terminal_at, nonterminal_at, none_at}
 use Rattle.numbering.specs.Parts.{blank_frame, begun, with_part, frame_side, PartOf, part_tokens, AllParts, all_tokens, WholePart}
 use Rattle.numbering.specs.Frames.{place_of, suspended_place, places, frame_tokens, gone_tokens, symbols_below, symbols_left, FrameParts, StartLowest, ParseAt, Goes_on}
 use Rattle.numbering.specs.declared.frame.Part.{Part}
@@ -31,11 +36,11 @@ parts_more : (order : LengthOrder) (G : Cfg) (p : ℕ) (Ys : List Symbol) (ds : 
     → AllParts order G (take p Ys) ds → PartOf order G X d
     → AllParts order G (take (suc p) Ys) (set ds p d) × (all_tokens order G (take (suc p) Ys) (set ds p d) ≡ all_tokens order G (take p Ys) ds ++ (part_tokens order G X d ∷ []))
 parts_more order G p Ys [] X Xs d e l a o = absurd (omega arith)
-parts_more order G zero [] (c ∷ ds) X Xs d e l a o = let z : ◌≡◌ {A = ℕ} 0 1 = cc in absurd (omega arith)
+parts_more order G zero [] (c ∷ ds) X Xs d e l a o = absurd (cc)
 parts_more order G zero (Y ∷ Ys) (c ∷ ds) X Xs d e l a o =
     let i : X ≡ Y = cc in
     ((subst (λ (Z : Symbol). PartOf order G Z d) i o, tt), ap {B = List (List ℕ)} (λ (Z : Symbol). part_tokens order G Z d ∷ []) (sym i))
-parts_more order G (suc p) [] (c ∷ ds) X Xs d e l a o = let z : ◌≡◌ {A = ℕ} 0 1 = cc in absurd (omega arith)
+parts_more order G (suc p) [] (c ∷ ds) X Xs d e l a o = absurd (cc)
 parts_more order G (suc p) (Y ∷ Ys) (c ∷ ds) X Xs d e l a o =
     let r = parts_more order G p Ys ds X Xs d e (omega arith) a.1 o in
     ((a.0, r.0), ap {B = List (List ℕ)} (λ (us : List (List ℕ)). part_tokens order G Y c ∷ us) r.1)
@@ -45,7 +50,7 @@ symbols_behind : (Ys : List Symbol) (p : ℕ) (X : Symbol) (Xs : List Symbol) �
 symbols_behind Ys p X Xs e =
     ⊎_elim
     (λ (l : p < length Ys). l)
-    (λ l. let d = drop_all p Ys l in let z : ◌≡◌ {A = ℕ} 0 1 = cc in absurd (omega arith))
+    (λ l. let d = drop_all p Ys l in absurd (cc))
     (cases_lt p (length Ys))
 
 -- the next token: it is there, and what is gone and left with it
@@ -66,8 +71,22 @@ next_token tokens gone t e =
       left = m ∙ ap {B = List ℕ} (λ (x : ℕ). x ∷ drop (gone + 1) tokens) i;
       more = take_more tokens gone 0 l ∙ ap {B = List ℕ} (λ (x : ℕ). take gone tokens ++ (x ∷ [])) i;
     })
-    (λ l. let n = ap next_of (drop_all gone tokens l) in let z : ◌≡◌ {A = ℕ} 0 1 = cc in absurd (omega arith))
+    (λ l. let n = ap next_of (drop_all gone tokens l) in absurd (cc))
     (cases_lt gone (length tokens))
+
+-- what comes next at the front
+pub next_first : (ts : List ℕ) → next_of_lookahead (slice_get ts 0) ≡ next_of ts
+next_first [] = refl
+next_first (t ∷ ts) = refl
+
+-- what comes next, by how it compares with a terminal
+pub is_next : (o : Option ℕ) (t : ℕ) → false ≡ not (option_eq eqb o (Some t)) → next_of_lookahead o ≡ token t
+is_next (Some x) t e = ⊎_elim (λ i. ap token i) (λ ne. absurd (cc (e, ne_eqb x t ne))) (cases_eq x t)
+is_next None t e = absurd (cc)
+
+pub not_next : (o : Option ℕ) (t : ℕ) → true ≡ not (option_eq eqb o (Some t)) → next_of_lookahead o ≡ token t → ⊥
+not_next (Some x) t e h = let i : x ≡ t = cc in cc (e, eq-eqb x t i)
+not_next None t e h = cc
 
 -- the part of a terminal
 abbrev pub token_part : Part
@@ -96,49 +115,43 @@ lowest_same : (G : Cfg) (f g : Frame) (fs : List Frame) → g.slot ≡ f.slot �
 lowest_same G f g [] e h = ap {B = Option ℕ} (λ (s : ℕ). left_of (G.slot s)) e ∙ h
 lowest_same G f g (b ∷ fs) e h = h
 
--- what is left of the symbols behind the first
-symbols_rest : (Ys : List Symbol) (p : ℕ) (X : Symbol) (Xs : List Symbol) → drop p Ys ≡ X ∷ Xs → drop p Ys ≡ X ∷ drop (p + 1) Ys
-symbols_rest Ys p X Xs e =
-    let m = drop_more Ys p X (symbols_behind Ys p X Xs e) in
-    let i : get_or Ys p X ≡ X = cc in
-    m ∙ ap {B = List Symbol} (λ (Y : Symbol). Y ∷ drop (p + 1) Ys) i
-
-module _ {G : Cfg} {chosen : ℕ → Next → Option ℕ} {level : ℕ → ℕ} (im : Implements G chosen level) {order : LengthOrder} (lists : ListsLengths order) (tokens : List ℕ) where
+module _ {G : Cfg} {chosen : ℕ → Next → Option ℕ} {level : ℕ → ℕ} (im : Implements G chosen level) {order : LengthOrder} {tokens : List ℕ} where
   -- the parse begins with the chosen slot of the start
-  pub first_frame : (f : Frame) (s : ℕ) → length f.parts ≡ 6 → chosen G.start (next_of tokens) ≡ Some s → ParseAt order G chosen level tokens (begun f s) [] 0
-  first_frame f s six c =
+  pub first_frame : (s : ℕ) → chosen G.start (next_of tokens) ≡ Some s → ParseAt order G chosen level tokens (begun blank_frame s) [] 0
+  first_frame s c =
       let own = im.choice.own G.start s (next_of tokens) c in
       record {
         reach = omega arith;
         lowest = own;
-        frames = (record { six = six; far = omega arith; parts = tt }, tt);
+        frames = (record { six = refl; far = omega arith; parts = tt }, tt);
         chain = begin_chain (ll1_of im) s G.start own;
         read = refl;
         comes = comes_replace s comes_first c;
       }
 
-  module _ {f : Frame} {fs : List Frame} {gone : ℕ} (at : ParseAt order G chosen level tokens f fs gone) (most : ℕ) (enough : (length tokens + 1) * G.nonterminals ≤ most) where
-    -- so many frames fit
-    frames_fit : length (places f fs) ≤ most
-    frames_fit =
-        let l : gone + 1 ≤ length tokens + 1 = omega (arith, at.reach) in
-        let p : (gone + 1) * G.nonterminals ≤ (length tokens + 1) * G.nonterminals = mul-le-mul_right G.nonterminals l in
-        omega (arith, depth_bound (ll1_of im) (places f fs) gone at.chain)
+  module _ {f : Frame} {fs : List Frame} {gone : ℕ} (at : ParseAt order G chosen level tokens f fs gone) where
+    module _ {t : ℕ} (here : Some (value.Terminal t) ≡ symbol_at (frame_side G f) f.position) where
+      rest : suffix_of G (place_of f) ≡ terminal t ∷ drop (f.position + 1) (frame_side G f)
+      rest = rw add-one (terminal_at (frame_side G f) f.position t here)
 
-    -- the position of the frame is one of an array of six
-    pub position_low : (X : Symbol) (Xs : List Symbol) → suffix_of G (place_of f) ≡ X ∷ Xs → f.position < 6
-    position_low X Xs e = omega (arith, symbols_behind (frame_side G f) f.position X Xs e, side_six im.limits f.slot)
+      -- the position of the frame is one of an array of six
+      pub position_low : f.position < 6
+      position_low = omega (arith, symbols_behind (frame_side G f) f.position _ _ rest, side_six im.limits f.slot)
 
-    module _ (t : ℕ) (Xs : List Symbol) (here : suffix_of G (place_of f) ≡ terminal t ∷ Xs) where
       -- all symbols that are left, the terminal first
       terminal_left : symbols_left G f fs ≡ terminal t ∷ symbols_left G (with_part f token_part) fs
-      terminal_left = ap {B = List Symbol} (λ (Ys : List Symbol). Ys ++ symbols_below G fs) (symbols_rest (frame_side G f) f.position (terminal t) Xs here)
+      terminal_left = ap {B = List Symbol} (λ (Ys : List Symbol). Ys ++ symbols_below G fs) rest
 
-      -- a terminal at the position goes with an equal token
-      pub token_goes : next_of (drop gone tokens) ≡ token t → Goes_on order G chosen level tokens most f fs (with_part f token_part) fs (gone + 1)
-      token_goes e =
+      comes_here : ComesTo G chosen (nonterminal G.start ∷ []) tokens (terminal t ∷ symbols_left G (with_part f token_part) fs) (drop gone tokens) gone
+      comes_here = rw (← terminal_left) at.comes
+
+      -- the terminal goes with an equal token
+      pub token_goes : (most : ℕ) → next_of (drop gone tokens) ≡ token t → Goes_on order G chosen level tokens most f fs (with_part f token_part) fs (gone + 1)
+      token_goes most e =
           let n = next_token tokens gone t e in
-          let m = frame_more order G f (terminal t) Xs token_part (side_six im.limits f.slot) at.frames.0 here (omega arith) in
+          let comes : ComesTo G chosen (nonterminal G.start ∷ []) tokens (terminal t ∷ symbols_left G (with_part f token_part) fs) (t ∷ drop (gone + 1) tokens) gone =
+          rw (← n.left) comes_here in
+          let m = frame_more order G f (terminal t) _ token_part (side_six im.limits f.slot) at.frames.0 rest (omega arith) in
           record {
             at = record {
               reach = omega (arith, n.inside);
@@ -150,63 +163,62 @@ module _ {G : Cfg} {chosen : ℕ → Next → Option ℕ} {level : ℕ → ℕ} 
                   ∙ sym (append_assoc (gone_tokens order G fs) (frame_tokens order G f) (t ∷ []))
                   ∙ ap {B = List ℕ} (λ (u : List ℕ). u ++ (t ∷ [])) at.read
                   ∙ sym n.more;
-              comes =
-                  comes_match
-                  (subst (λ (v : List ℕ). ComesTo G chosen (nonterminal G.start ∷ []) tokens (terminal t ∷ symbols_left G (with_part f token_part) fs) v gone) n.left
-                  (subst (λ (Zs : List Symbol). ComesTo G chosen (nonterminal G.start ∷ []) tokens Zs (drop gone tokens) gone) terminal_left at.comes))
-                  refl;
+              comes = comes_match comes refl;
             };
-            falls = further_falls G most (place_of f) (map suspended_place fs) (symbols_behind (frame_side G f) f.position (terminal t) Xs here);
+            falls = further_falls G most (place_of f) (map suspended_place fs) (symbols_behind (frame_side G f) f.position (terminal t) _ rest);
           }
 
       -- where the next token is another, or there is none, the parse stops
       pub other_stops : (next_of (drop gone tokens) ≡ token t → ⊥) → StopsAfter G chosen (nonterminal G.start ∷ []) tokens gone
-      other_stops h =
-          comes_stop (subst (λ (Zs : List Symbol). ComesTo G chosen (nonterminal G.start ∷ []) tokens Zs (drop gone tokens) gone) terminal_left at.comes) (other_token h)
+      other_stops h = comes_stop comes_here (other_token h)
 
-    module _ (A : ℕ) (Xs : List Symbol) (here : suffix_of G (place_of f) ≡ nonterminal A ∷ Xs) where
+    module _ {A : ℕ} (here : Some (value.Nonterminal A) ≡ symbol_at (frame_side G f) f.position) where
+      behind : suffix_of G (place_of f) ≡ nonterminal A ∷ drop (f.position + 1) (frame_side G f)
+      behind = rw add-one (nonterminal_at (frame_side G f) f.position A here)
+
       -- all symbols that are left, the nonterminal first
       nonterminal_left : symbols_left G f fs ≡ nonterminal A ∷ symbols_below G (f ∷ fs)
-      nonterminal_left = ap {B = List Symbol} (λ (Ys : List Symbol). Ys ++ symbols_below G fs) (symbols_rest (frame_side G f) f.position (nonterminal A) Xs here)
+      nonterminal_left = ap {B = List Symbol} (λ (Ys : List Symbol). Ys ++ symbols_below G fs) behind
 
-      comes_here : ComesTo G chosen (nonterminal G.start ∷ []) tokens (nonterminal A ∷ symbols_below G (f ∷ fs)) (drop gone tokens) gone
-      comes_here = subst (λ (Zs : List Symbol). ComesTo G chosen (nonterminal G.start ∷ []) tokens Zs (drop gone tokens) gone) nonterminal_left at.comes
+      comes_with : ComesTo G chosen (nonterminal G.start ∷ []) tokens (nonterminal A ∷ symbols_below G (f ∷ fs)) (drop gone tokens) gone
+      comes_with = rw (← nonterminal_left) at.comes
 
       -- there is room for one more frame
-      pub one_more_fits : length (places f fs) < most
-      one_more_fits =
+      pub one_more_fits : (most : ℕ) → (length tokens + 1) * G.nonterminals ≤ most → length (places f fs) < most
+      one_more_fits most enough =
           let l : gone + 1 ≤ length tokens + 1 = omega (arith, at.reach) in
           let p : (gone + 1) * G.nonterminals ≤ (length tokens + 1) * G.nonterminals = mul-le-mul_right G.nonterminals l in
-          omega (arith, room (ll1_of im) (place_of f) (map suspended_place fs) gone A Xs at.chain here)
+          omega (arith, room (ll1_of im) (place_of f) (map suspended_place fs) gone A _ at.chain behind)
 
-      -- a frame is opened for the slot that is chosen for the nonterminal at the position
-      pub frame_opens : (s : ℕ) → chosen A (next_of (drop gone tokens)) ≡ Some s → Goes_on order G chosen level tokens most f fs (begun f s) (f ∷ fs) gone
-      frame_opens s c =
+      -- a frame is opened for the slot that is chosen for the nonterminal
+      pub frame_opens : (most : ℕ) → (length tokens + 1) * G.nonterminals ≤ most → (s : ℕ) → chosen A (next_of (drop gone tokens)) ≡ Some s
+          → Goes_on order G chosen level tokens most f fs (begun f s) (f ∷ fs) gone
+      frame_opens most enough s c =
           let own = im.choice.own A s (next_of (drop gone tokens)) c in
           record {
             at = record {
               reach = at.reach;
               lowest = at.lowest;
               frames = (record { six = at.frames.0.six; far = omega arith; parts = tt }, at.frames);
-              chain = open_frame (ll1_of im) (place_of f) (map suspended_place fs) gone s A Xs at.chain here own;
+              chain = open_frame (ll1_of im) (place_of f) (map suspended_place fs) gone s A _ at.chain behind own;
               read = append-nil (gone_tokens order G (f ∷ fs)) ∙ at.read;
-              comes = comes_replace s comes_here c;
+              comes = comes_replace s comes_with c;
             };
-            falls = open_falls G most (place_of f) (map suspended_place fs) im.limits s (symbols_behind (frame_side G f) f.position (nonterminal A) Xs here) one_more_fits;
+            falls = open_falls G most (place_of f) (map suspended_place fs) im.limits s (symbols_behind (frame_side G f) f.position (nonterminal A) _ behind) (one_more_fits most enough);
           }
 
       -- where none is chosen, the parse stops
       pub no_choice_stops : chosen A (next_of (drop gone tokens)) ≡ None → StopsAfter G chosen (nonterminal G.start ∷ []) tokens gone
-      no_choice_stops c = comes_stop comes_here (no_choice c)
+      no_choice_stops c = comes_stop comes_with (no_choice c)
 
-    module _ (done : f.position ≡ length (frame_side G f)) where
+    module _ (here : None ≡ symbol_at (frame_side G f) f.position) where
       -- nothing is left of the frame
       none_left : suffix_of G (place_of f) ≡ []
-      none_left = drop_all f.position (frame_side G f) (omega arith)
+      none_left = drop_all f.position (frame_side G f) (none_at (frame_side G f) f.position here)
 
       -- all its symbols are parsed
       all_taken : take f.position (frame_side G f) ≡ frame_side G f
-      all_taken = take_all f.position (frame_side G f) (omega arith)
+      all_taken = take_all f.position (frame_side G f) (none_at (frame_side G f) f.position here)
 
       -- so they have their parts
       pub done_parts : AllParts order G (frame_side G f) f.parts
@@ -235,13 +247,12 @@ module _ {G : Cfg} {chosen : ℕ → Next → Option ℕ} {level : ℕ → ℕ} 
           go : Chain G level (places f fs) gone → (A : ℕ) × (left_of (G.slot f.slot) ≡ Some A)
           go (top A from h b) = (A, h.of)
 
-module _ {G : Cfg} {chosen : ℕ → Next → Option ℕ} {level : ℕ → ℕ} (im : Implements G chosen level) {order : LengthOrder} (lists : ListsLengths order) (tokens : List ℕ) where
-  module _ {f g : Frame} {fs : List Frame} {gone : ℕ} (at : ParseAt order G chosen level tokens f (g ∷ fs) gone) (done : f.position ≡ length (frame_side G f)) where
+  module _ {f g : Frame} {fs : List Frame} {gone : ℕ} (at : ParseAt order G chosen level tokens f (g ∷ fs) gone) (here : None ≡ symbol_at (frame_side G f) f.position) where
     -- for which nonterminal of the frame below a frame was opened
-    pub record Opened : Type 0 where
+    record Opened : Type 0 where
       pub it : ℕ
       pub own : left_of (G.slot f.slot) ≡ Some it
-      pub here : suffix_of G (place_of g) ≡ nonterminal it ∷ suffix_of G (suspended_place g)
+      pub stands : suffix_of G (place_of g) ≡ nonterminal it ∷ suffix_of G (suspended_place g)
 
     opened : Opened
     opened = go at.chain
@@ -249,44 +260,45 @@ module _ {G : Cfg} {chosen : ℕ → Next → Option ℕ} {level : ℕ → ℕ} 
         go : Chain G level (places f (g ∷ fs)) gone → Opened
         go (top A from h (above p B from' e d k b)) =
             let i : g.position ≡ p = omega arith in
-            record { it = A; own = h.of; here = ap {B = List Symbol} (λ (n : ℕ). drop n (frame_side G g)) i ∙ d }
+            record { it = A; own = h.of; stands = ap {B = List Symbol} (λ (n : ℕ). drop n (frame_side G g)) i ∙ d }
 
     -- there is a place for the part in the frame below
     pub below_low : g.position < 6
-    below_low = omega (arith, symbols_behind (frame_side G g) g.position _ _ opened.here, side_six im.limits g.slot)
+    below_low = omega (arith, symbols_behind (frame_side G g) g.position _ _ opened.stands, side_six im.limits g.slot)
 
     -- the frame is closed, and the one below has its part
     pub frame_closes : (most : ℕ) → (length tokens + 1) * G.nonterminals ≤ most → (d : Part) → WholePart order G f d
         → Goes_on order G chosen level tokens most f (g ∷ fs) (with_part g d) fs gone
     frame_closes most enough d w =
         let o = opened in
-        let m = frame_more order G g (nonterminal o.it) _ d (side_six im.limits g.slot) at.frames.1.0 o.here (w.low o.it o.own) in
-        let is = w.is o.it o.own ∙ done_tokens im lists tokens at most enough done in
+        let m = frame_more order G g (nonterminal o.it) _ d (side_six im.limits g.slot) at.frames.1.0 o.stands (w.low o.it o.own) in
+        let is = w.is o.it o.own ∙ done_tokens at here in
+        let l : gone + 1 ≤ length tokens + 1 = omega (arith, at.reach) in
+        let p : (gone + 1) * G.nonterminals ≤ (length tokens + 1) * G.nonterminals = mul-le-mul_right G.nonterminals l in
         record {
           at = record {
             reach = at.reach;
             lowest = lowest_same G g (with_part g d) fs refl at.lowest;
             frames = (m.0, at.frames.1.1);
-            chain = close_frame (ll1_of im) (place_of f) (map suspended_place (g ∷ fs)) gone (none_left im lists tokens at most enough done) at.chain;
+            chain = close_frame (ll1_of im) (place_of f) (map suspended_place (g ∷ fs)) gone (none_left at here) at.chain;
             read =
                 ap {B = List ℕ} (λ (u : List ℕ). gone_tokens order G fs ++ u) (m.1 ∙ ap {B = List ℕ} (λ (u : List ℕ). frame_tokens order G g ++ u) is)
                 ∙ sym (append_assoc (gone_tokens order G fs) (frame_tokens order G g) (frame_tokens order G f))
                 ∙ at.read;
             comes =
-                subst (λ (Ys : List Symbol). ComesTo G chosen (nonterminal G.start ∷ []) tokens (Ys ++ symbols_below G (g ∷ fs)) (drop gone tokens) gone)
-                (none_left im lists tokens at most enough done) at.comes;
+                subst (λ (Ys : List Symbol). ComesTo G chosen (nonterminal G.start ∷ []) tokens (Ys ++ symbols_below G (g ∷ fs)) (drop gone tokens) gone) (none_left at here) at.comes;
           };
-          falls = close_falls G most (place_of f) (map suspended_place (g ∷ fs)) (omega arith) (frames_fit im lists tokens at most enough);
+          falls =
+              close_falls G most (place_of f) (map suspended_place (g ∷ fs)) (omega arith) (omega (arith, depth_bound (ll1_of im) (places f (g ∷ fs)) gone at.chain));
         }
 
-  module _ {f : Frame} {gone : ℕ} (at : ParseAt order G chosen level tokens f [] gone) (most : ℕ) (enough : (length tokens + 1) * G.nonterminals ≤ most)
-      (done : f.position ≡ length (frame_side G f)) where
+  module _ {f : Frame} {gone : ℕ} (at : ParseAt order G chosen level tokens f [] gone) (here : None ≡ symbol_at (frame_side G f) f.position) where
     -- where all tokens are gone, the part of the lowest frame has their rank
-    pub parse_ends : length tokens ≤ gone → (d : Part) → WholePart order G f d → Rank G order G.start tokens d.rank
-    parse_ends l d w =
+    pub parse_ends : ListsLengths order → length tokens ≤ gone → (d : Part) → WholePart order G f d → Rank G order G.start tokens d.rank
+    parse_ends lists l d w =
         let low = w.low G.start at.lowest in
         let all : take gone tokens ≡ tokens = take_all gone tokens l in
-        let is : part_tokens order G (nonterminal G.start) d ≡ tokens = w.is G.start at.lowest ∙ done_tokens im lists tokens at most enough done ∙ at.read ∙ all in
+        let is : part_tokens order G (nonterminal G.start) d ≡ tokens = w.is G.start at.lowest ∙ done_tokens at here ∙ at.read ∙ all in
         subst (λ (v : List ℕ). Rank G order G.start v d.rank) is (rank_at (ll1_of im) lists G.start d.length d.rank low)
 
     -- where tokens are left, the parse stops
@@ -294,80 +306,5 @@ module _ {G : Cfg} {chosen : ℕ → Next → Option ℕ} {level : ℕ → ℕ} 
     more_stops l =
         comes_stop
         (subst (λ (v : List ℕ). ComesTo G chosen (nonterminal G.start ∷ []) tokens [] v gone) (drop_more tokens gone 0 l)
-        (subst (λ (Ys : List Symbol). ComesTo G chosen (nonterminal G.start ∷ []) tokens (Ys ++ []) (drop gone tokens) gone) (none_left im lists tokens at most enough done) at.comes))
+        (subst (λ (Ys : List Symbol). ComesTo G chosen (nonterminal G.start ∷ []) tokens (Ys ++ []) (drop gone tokens) gone) (none_left at here) at.comes))
         tokens_left
-
--- the symbol at a frame's position, by its byte
-module _ {G : Cfg} {chosen : ℕ → Next → Option ℕ} {level : ℕ → ℕ} (im : Implements G chosen level) (f : Frame) where
-  pub terminal_at : (b : ℕ) → Some b ≡ byte_at (frame_side G f) f.position → b < 128 → suffix_of G (place_of f) ≡ terminal b ∷ drop (suc f.position) (frame_side G f)
-  terminal_at b e l =
-      let s = symbol_at (frame_side G f) f.position b e in
-      let t = is_terminal im.limits f.slot f.position b s l in
-      let i = s.byte in
-      let j : s.it ≡ terminal b = go s.it t.0 t.1 s.byte in
-      s.suffix ∙ ap {B = List Symbol} (λ (X : Symbol). X ∷ drop (suc f.position) (frame_side G f)) j
-    where
-      go : (X : Symbol) (t : ℕ) → X ≡ terminal t → byte_of X ≡ b → X ≡ terminal b
-      go (terminal u) t i j = ap terminal j
-      go (nonterminal B) t i j = let z : ◌≡◌ {A = ℕ} 0 1 = cc in absurd (omega arith)
-
-  pub nonterminal_at : (b : ℕ) → Some b ≡ byte_at (frame_side G f) f.position → 128 ≤ b
-      → suffix_of G (place_of f) ≡ nonterminal (b - 128) ∷ drop (suc f.position) (frame_side G f)
-  nonterminal_at b e l =
-      let s = symbol_at (frame_side G f) f.position b e in
-      s.suffix ∙ ap {B = List Symbol} (λ (X : Symbol). X ∷ drop (suc f.position) (frame_side G f)) (is_nonterminal im.limits f.slot f.position b s l).0
-
-  -- no symbol is there: all are parsed
-  pub all_parsed : f.position ≤ length (frame_side G f) → None ≡ byte_at (frame_side G f) f.position → f.position ≡ length (frame_side G f)
-  all_parsed l e =
-      ⊎_elim
-      (λ (o : f.position < length (frame_side G f)). absurd (no_byte (frame_side G f) f.position o e))
-      (λ o. omega arith)
-      (cases_lt f.position (length (frame_side G f)))
-
--- the parse begins, with a frame that is known by equations
-pub begins_at : {G : Cfg} {chosen : ℕ → Next → Option ℕ} {level : ℕ → ℕ} → Implements G chosen level → {order : LengthOrder} → ListsLengths order → (tokens : List ℕ)
-    (b f : Frame) (hs : List Frame) (s : ℕ) → b ≡ blank_frame → f ≡ begun b s → hs ≡ [] → chosen G.start (next_of tokens) ≡ Some s
-    → ParseAt order G chosen level tokens f hs 0
-begins_at {G} {chosen} {level} im {order} lists tokens b f hs s blank i e c =
-    let six : length b.parts ≡ 6 = ap {B = ℕ} (λ (x : Frame). length x.parts) blank in
-    subst (λ (x : Frame). ParseAt order G chosen level tokens x hs 0) (sym i)
-    (subst (λ (xs : List Frame). ParseAt order G chosen level tokens (begun b s) xs 0) (sym e) (first_frame im lists tokens b s six c))
-
--- the same of frames that are known by equations
-module _ {G : Cfg} {chosen : ℕ → Next → Option ℕ} {level : ℕ → ℕ} (im : Implements G chosen level) {order : LengthOrder} (lists : ListsLengths order) (tokens : List ℕ)
-    (f : Frame) (hs : List Frame) (gone most : ℕ) (at : ParseAt order G chosen level tokens f hs gone) (enough : (length tokens + 1) * G.nonterminals ≤ most) where
-  -- a frame is opened
-  pub opens_to : (b : ℕ) → Some b ≡ byte_at (frame_side G f) f.position → 128 ≤ b → (g : Frame) (gs : List Frame)
-      → (s : ℕ) × (chosen (b - 128) (next_of (drop gone tokens)) ≡ Some s) × (g ≡ begun f s) × (gs ≡ f ∷ hs) → Goes_on order G chosen level tokens most f hs g gs gone
-  opens_to b e l g gs o =
-      subst (λ (x : Frame). Goes_on order G chosen level tokens most f hs x gs gone) (sym o.2)
-      (subst (λ (xs : List Frame). Goes_on order G chosen level tokens most f hs (begun f o.0) xs gone) (sym o.3)
-      (frame_opens im lists tokens at most enough (b - 128) _ (nonterminal_at im f b e l) o.0 o.1))
-
-  -- a frame is closed
-  pub closes_to : f.position ≡ length (frame_side G f) → (below g : Frame) (gs : List Frame) (d : Part) → hs ≡ below ∷ gs → g ≡ with_part below d → WholePart order G f d
-      → Goes_on order G chosen level tokens most f hs g gs gone
-  closes_to done below g gs d e i w =
-      subst (λ (x : Frame). Goes_on order G chosen level tokens most f hs x gs gone) (sym i)
-      (subst (λ (xs : List Frame). Goes_on order G chosen level tokens most f xs (with_part below d) gs gone) (sym e)
-      (frame_closes im lists tokens (subst (λ (xs : List Frame). ParseAt order G chosen level tokens f xs gone) e at) done most enough d w))
-
-  -- there is a place for the part in the frame below
-  pub below_has_place : f.position ≡ length (frame_side G f) → (below : Frame) (gs : List Frame) → hs ≡ below ∷ gs → below.position < 6
-  below_has_place done below gs e = below_low im lists tokens (subst (λ (xs : List Frame). ParseAt order G chosen level tokens f xs gone) e at) done
-
-  -- the parse ends
-  pub ends_at : f.position ≡ length (frame_side G f) → hs ≡ [] → length tokens ≤ gone → (d : Part) → WholePart order G f d → Rank G order G.start tokens d.rank
-  ends_at done e = parse_ends im lists tokens (subst (λ (xs : List Frame). ParseAt order G chosen level tokens f xs gone) e at) most enough done
-
-  -- the parse stops before tokens that are left
-  pub stops_before : f.position ≡ length (frame_side G f) → hs ≡ [] → gone < length tokens → StopsAfter G chosen (nonterminal G.start ∷ []) tokens gone
-  stops_before done e = more_stops im lists tokens (subst (λ (xs : List Frame). ParseAt order G chosen level tokens f xs gone) e at) most enough done
-
-  -- a token goes
-  pub passes_to : (b : ℕ) → Some b ≡ byte_at (frame_side G f) f.position → b < 128 → next_of (drop gone tokens) ≡ token b → (g : Frame) → g ≡ with_part f token_part
-      → Goes_on order G chosen level tokens most f hs g hs (gone + 1)
-  passes_to b e l n g i =
-      subst (λ (x : Frame). Goes_on order G chosen level tokens most f hs x hs (gone + 1)) (sym i)
-      (token_goes im lists tokens at most enough b _ (terminal_at im f b e l) n)

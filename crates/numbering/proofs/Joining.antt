@@ -12,7 +12,7 @@ module _ {order : LengthOrder} (lists : ListsLengths order) where
   pub never_missed : (m j : ℕ) → j ≤ m → ((i : ℕ) → i < m + 1 → get_or (order m) i 0 ≡ j → ⊥) → ⊥
   never_missed m j l h = let p = order_place lists m j l in h p.place (omega (arith, p.below, length_order lists m)) p.is
 
-  module _ (m i j : ℕ) (inside : i < m + 1) (listed : j ≡ get_or (order m) i 0) where
+  module _ (m i j : ℕ) (inside : i ≤ m) (listed : j ≡ get_or (order m) i 0) where
     -- a length that is listed is at most m
     pub listed_short : j ≤ m
     listed_short = omega (arith, order_short lists m i (omega (arith, length_order lists m)))
@@ -30,11 +30,11 @@ module _ {order : LengthOrder} (lists : ListsLengths order) where
           let e = listed_more (entry_at firsts) (entry_at rests) m (order m) i (omega (arith, length_order lists m)) in
           omega (arith, ap (λ (x : ℕ). get_or firsts x 0 * get_or rests (m - x) 0) listed)
 
-  module _ (d u : Part) (i j : ℕ) (inside : i < d.length + u.length + 1) (listed : j ≡ get_or (order (d.length + u.length)) i 0) (found : j ≡ d.length)
+  module _ (d u : Part) (i j : ℕ) (inside : i ≤ d.length + u.length) (listed : j ≡ get_or (order (d.length + u.length)) i 0) (found : j ≡ d.length)
       (firsts rests : List ℕ) (before : ℕ) (is : before ≡ sum_listed (entry_at firsts) (entry_at rests) (d.length + u.length) (take i (order (d.length + u.length))))
       (part_low : d.rank < get_or firsts d.length 0) (rest_low : u.rank < get_or rests u.length 0) where
     -- at the length of the first part the two are joined
-    pub joined_at : (k : ℕ) → k ≡ before + (d.rank * get_or rests u.length 0 + u.rank)
+    pub joined_at : (k : ℕ) → k ≡ before + d.rank * get_or rests u.length 0 + u.rank
         → SplitAt (entry_at firsts) (entry_at rests) (d.length + u.length) (order (d.length + u.length)) k i d.length d.rank u.rank
     joined_at k e =
         let b : d.length + u.length - d.length ≡ u.length = omega arith in
@@ -49,5 +49,5 @@ module _ {order : LengthOrder} (lists : ListsLengths order) where
 
     -- and their rank fits
     pub joined_fits : sum_listed (entry_at firsts) (entry_at rests) (d.length + u.length) (order (d.length + u.length)) < 2 ^ 63
-        → before + (d.rank * get_or rests u.length 0 + u.rank) < 2 ^ 63
+        → before + d.rank * get_or rests u.length 0 + u.rank < 2 ^ 63
     joined_fits small = let l = split_below (joined_at _ refl) in omega arith

@@ -1,142 +1,146 @@
 -- What the rows of a table say of the suffix at a position of a frame, and how the part there adds up with those behind it. Assumes nothing.
-use Rattle.std.proofs.Common.{◌≡◌, ℕ, ◌+◌, ◌-◌, ◌^◌, ◌<◌, ◌≤◌, List, ◌∷◌, length, get_or, drop, Some, sym, ap, ◌∙◌, subst, arith}
+use Rattle.std.proofs.Common.{◌≡◌, ℕ, zero, suc, ◌+◌, ◌^◌, ◌<◌, ◌≤◌, List, ◌∷◌, length, get_or, drop, slice_index, Some, sym, ap, ◌∙◌, add-zero, add-one, zero-add, arith}
+use Rattle.std.specs.List.{range_with_len, sum_by}
 use Rattle.std.proofs.lemmas.List.{drop_all}
-use Rattle.theory.specs.Lists.{joined}
+use Rattle.std.proofs.lemmas.List.Sums.{sum_by-cons}
 use Rattle.theory.specs.Grammar.{Symbol, terminal, nonterminal, Cfg}
 use Rattle.theory.specs.Sound.{Ll1}
 use Rattle.theory.specs.Order.{LengthOrder, ListsLengths}
 use Rattle.theory.specs.Count.{left_of, right_of, if_left, side_count, count}
-use Rattle.theory.proofs.Counting.{slots_more, slots_le, is_rule}
-use Rattle.grammar.specs.Interface.{byte_at}
-use Rattle.table.specs.Reading.{counted_row, side_ways, SoundCounts}
+use Rattle.theory.proofs.Counting.{slots_none, slots_more, slots_le, is_rule}
+use Rattle.grammar.specs.Symbols.{symbol_at}
+use Rattle.grammar.specs.declared.Symbol.TheVariants as value
+use Rattle.table.specs.Reading.{side_ways, SoundCells}
 use Rattle.table.specs.declared.Row.TheVariants.{Nonterminal, Suffix}
-use Rattle.table.specs.declared.counts.Counts.{Counts}
-use Rattle.table.proofs.RowCells.{row_long, row_count, row_low, ways_read}
-use Rattle.table.proofs.Sides.{SymbolAt, symbol_at, is_terminal, is_nonterminal}
+use Rattle.table.proofs.RowCells.{row_read, row_long, row_count, row_low, ways_read}
+use Rattle.table.proofs.Sides.{nonterminal_known}
 use Rattle.walk.specs.Splits.{sum_listed}
 use Rattle.walk.specs.Ways.{CountedBy, slot_ways, ways_before}
 use Rattle.walk.proofs.Ways.{counted_first, counted_rest, sum_count}
 use Rattle.walk.proofs.Slots.{own_ways, ways_before_le}
-use Rattle.numbering.specs.Parts.{frame_side, PartOf, AllParts, all_tokens, AddsUp, entry_at, Joins}
+use Rattle.numbering.specs.Parts.{no_part, frame_side, PartOf, AddsUp, PartsFrom, tokens_from, AddsUpFrom, entry_at, Joins}
 use Rattle.numbering.specs.declared.frame.Part.{Part}
 use Rattle.numbering.specs.declared.frame.Frame.{Frame}
-use Rattle.numbering.proofs.Adding.{NextPart, next_part, both_length, add_terminal, add_last, add_joined}
+use Rattle.grammar.proofs.Symbols.{terminal_at, nonterminal_at}
+use Rattle.numbering.proofs.Adding.{part_there, both_length, add_terminal, add_last, add_joined}
 
-module _ {G : Cfg} {level : ℕ → ℕ} {order : LengthOrder} (ll : Ll1 G level) (lists : ListsLengths order) (f : Frame) (p : ℕ) (there : p < length (frame_side G f))
-    (parts : AllParts order G (drop p (frame_side G f)) (drop p f.parts)) (u : Part) (rest : AddsUp order G (drop (p + 1) (frame_side G f)) (drop (p + 1) f.parts) u)
-    (b : ℕ) (byte : Some b ≡ byte_at (frame_side G f) p) where
-  here : NextPart order G (frame_side G f) f.parts p
-  here = next_part order G (frame_side G f) f.parts p there parts
+module _ {G : Cfg} {level : ℕ → ℕ} {order : LengthOrder} (ll : Ll1 G level) (lists : ListsLengths order) (f : Frame) (p : ℕ) (parts : PartsFrom order G f p) (u : Part)
+    (rest : AddsUpFrom order G f (p + 1) u) where
+  -- the part of the symbol at the position
+  abbrev part : Part
+  part = get_or f.parts p no_part
 
-  symbol : SymbolAt (frame_side G f) p b
-  symbol = symbol_at (frame_side G f) p b byte
+  module _ {X : Symbol} (at : drop p (frame_side G f) ≡ X ∷ drop (suc p) (frame_side G f)) where
+    parts_at : drop p f.parts ≡ part ∷ drop (suc p) f.parts
+    parts_at = part_there order G X (drop (suc p) (frame_side G f)) p f.parts (rw at at parts)
 
-  same : symbol.it ≡ here.symbol
-  same = let e = symbol.suffix in let i = here.suffix in cc
+    -- it is one of the symbol's
+    of : PartOf order G X part
+    of = let a = rw (at, parts_at) at parts in a.0
 
-  -- what holds of the symbol and the part at the position, with what is behind, holds of all from the position on
-  all_from : {d : Part} (X : Symbol) → symbol.it ≡ X → AddsUp order G (X ∷ drop (p + 1) (frame_side G f)) (here.part ∷ drop (p + 1) f.parts) d
-      → AddsUp order G (drop p (frame_side G f)) (drop p f.parts) d
-  all_from {d} X e a =
-      let v : drop p (frame_side G f) ≡ X ∷ drop (p + 1) (frame_side G f) = here.suffix ∙ ap {B = List Symbol} (λ (Y : Symbol). Y ∷ drop (p + 1) (frame_side G f)) (sym same ∙ e) in
-      subst (λ (Ys : List Symbol). AddsUp order G Ys (drop p f.parts) d) (sym v)
-      (subst (λ (ds : List Part). AddsUp order G (X ∷ drop (p + 1) (frame_side G f)) ds d) (sym here.parts) a)
+    behind : AddsUp order G (drop (suc p) (frame_side G f)) (drop (suc p) f.parts) u
+    behind = rw add-one at rest
 
-  -- the part is one of the symbol's
-  of : (X : Symbol) → symbol.it ≡ X → PartOf order G X here.part
-  of X e = subst (λ (Y : Symbol). PartOf order G Y here.part) (sym same ∙ e) here.of
+    -- as many tokens from the position on as the two parts have
+    length_from : length (tokens_from order G f p) ≡ part.length + u.length
+    length_from = rw (at, parts_at) (both_length ll lists X (drop (suc p) (frame_side G f)) part (drop (suc p) f.parts) u of behind)
 
-  -- as many tokens from the position on as the two parts have
-  length_from : length (joined (all_tokens order G (drop p (frame_side G f)) (drop p f.parts))) ≡ here.part.length + u.length
-  length_from =
-      subst (λ (Ys : List Symbol). length (joined (all_tokens order G Ys (drop p f.parts))) ≡ here.part.length + u.length) (sym here.suffix)
-      (subst (λ (ds : List Part). length (joined (all_tokens order G (here.symbol ∷ drop (p + 1) (frame_side G f)) ds)) ≡ here.part.length + u.length) (sym here.parts)
-      (both_length ll lists here.symbol (drop (p + 1) (frame_side G f)) here.part (drop (p + 1) f.parts) u here.of rest))
+    -- what holds of the symbol and the part, with what is behind, holds of all from the position on
+    all_from : {d : Part} → AddsUp order G (X ∷ drop (suc p) (frame_side G f)) (part ∷ drop (suc p) f.parts) d → AddsUpFrom order G f p d
+    all_from a = rw (at, parts_at) a
 
-  -- what is behind has no more
-  pub rest_short : u.length ≤ length (joined (all_tokens order G (drop p (frame_side G f)) (drop p f.parts)))
-  rest_short = omega (arith, length_from)
+  module _ {t : ℕ} (said : Some (value.Terminal t) ≡ symbol_at (frame_side G f) p) where
+    is_terminal : drop p (frame_side G f) ≡ terminal t ∷ drop (suc p) (frame_side G f)
+    is_terminal = terminal_at (frame_side G f) p t said
 
-  -- a terminal at the position
-  pub terminal_here : b < 128 → AddsUp order G (drop p (frame_side G f)) (drop p f.parts) (record { length = u.length + 1; rank = u.rank })
-  terminal_here l =
-      let t = is_terminal ll.limits f.slot p b symbol l in
-      all_from (terminal t.0) t.1 (add_terminal ll lists t.0 _ here.part _ u (of (terminal t.0) t.1) rest)
+    -- what is behind a terminal has no more tokens
+    pub rest_short : u.length ≤ length (tokens_from order G f p)
+    rest_short = omega (arith, length_from is_terminal)
 
-  module _ (high : 128 ≤ b) (e d : Part) (read : d ≡ get_or f.parts p e) where
-    part_is : here.part ≡ d
-    part_is = sym (here.read e) ∙ sym read
+    pub terminal_here : AddsUpFrom order G f p (record { length = u.length + 1; rank = u.rank })
+    terminal_here = all_from is_terminal (add_terminal ll lists t _ part _ u (of is_terminal) (behind is_terminal))
 
-    is_nonterminal_here : (symbol.it ≡ nonterminal (b - 128)) × (b - 128 < G.nonterminals)
-    is_nonterminal_here = is_nonterminal ll.limits f.slot p b symbol high
+  module _ {A : ℕ} (said : Some (value.Nonterminal A) ≡ symbol_at (frame_side G f) p) where
+    at : drop p (frame_side G f) ≡ nonterminal A ∷ drop (suc p) (frame_side G f)
+    at = nonterminal_at (frame_side G f) p A said
+
+    known : A < G.nonterminals
+    known = nonterminal_known ll.limits f.slot p A _ at
 
     -- the two parts have as many tokens as all from the position on
-    pub length_both : d.length + u.length ≡ length (joined (all_tokens order G (drop p (frame_side G f)) (drop p f.parts)))
-    length_both = omega (arith, length_from, ap (λ (x : Part). x.length) part_is)
+    pub length_both : part.length + u.length ≡ length (tokens_from order G f p)
+    length_both = sym (length_from at)
 
     -- the last symbol
-    pub last_here : p + 1 ≡ length (frame_side G f) → AddsUp order G (drop p (frame_side G f)) (drop p f.parts) d
-    last_here last =
-        let n = is_nonterminal_here in
-        subst (λ (x : Part). AddsUp order G (drop p (frame_side G f)) (drop p f.parts) x) part_is
-        (all_from (nonterminal (b - 128)) n.0 (add_last ll lists (b - 128) _ here.part _ (drop_all (p + 1) (frame_side G f) (omega arith)) (of (nonterminal (b - 128)) n.0)))
+    pub last_here : p + 1 ≡ length (frame_side G f) → AddsUpFrom order G f p part
+    last_here last = all_from at (add_last ll lists A _ part _ (drop_all (suc p) (frame_side G f) (omega arith)) (of at))
 
-    module _ {counts : Counts} (sound : SoundCounts G counts) (inside : f.slot < G.slots) (more : p + 1 < length (frame_side G f)) (short : d.length + u.length ≤ counts.bound)
-        (firsts rests : List ℕ) (first_row : firsts ≡ counted_row counts (Nonterminal (b - 128))) (rest-row : rests ≡ counted_row counts (Suffix f.slot (p + 1))) where
-      -- the rows have an entry for each length up to that of both parts
-      pub firsts_long : d.length + u.length < length firsts
-      firsts_long = omega (arith, ap {B = ℕ} length first_row, row_long ll sound (Nonterminal (b - 128)) is_nonterminal_here.1)
+    module _ {L : ℕ} {cells offsets : List ℕ} (sound : SoundCells G L cells offsets) (inside : f.slot < G.slots) (there : p < length (frame_side G f))
+        (short : length (tokens_from order G f p) ≤ L) (n : ℕ) (long : n ≡ length (frame_side G f)) (more : p + 1 ≡ n → ⊥) (firsts rests : List ℕ)
+        (first_row : firsts ≡ row_read sound (Nonterminal A)) (rest_row : rests ≡ row_read sound (Suffix f.slot (p + 1))) where
+      -- the row of the rests is one of the table's
+      row : (f.slot < G.slots) × (p + 1 < length (frame_side G f))
+      row = (inside, omega arith)
 
-      pub rests_long : d.length + u.length < length rests
-      rests_long = omega (arith, ap {B = ℕ} length rest-row, row_long ll sound (Suffix f.slot (p + 1)) (inside, more))
-
-      -- they count the sentences of the nonterminal and the ways of what is behind
-      rows_count : CountedBy G (b - 128) (drop (p + 1) (frame_side G f)) (d.length + u.length) (entry_at firsts) (entry_at rests)
+      -- the rows count the sentences of the nonterminal and the ways of what is behind
+      rows_count : CountedBy G A (drop (suc p) (frame_side G f)) (part.length + u.length) (entry_at firsts) (entry_at rests)
       rows_count = record {
-        first = λ j l. ap {B = ℕ} (λ (row : List ℕ). entry_at row j) first_row ∙ row_count ll sound (Nonterminal (b - 128)) j is_nonterminal_here.1 (omega arith);
-        rest = λ k l. ap {B = ℕ} (λ (row : List ℕ). entry_at row k) rest-row ∙ row_count ll sound (Suffix f.slot (p + 1)) k (inside, more) (omega arith);
+        first = λ j l. ap {B = ℕ} (λ (row : List ℕ). entry_at row j) first_row ∙ row_count sound (Nonterminal A) j known (omega (arith, length_both));
+        rest =
+            λ k l. ap {B = ℕ} (λ (row : List ℕ). entry_at row k) rest_row
+            ∙ row_count sound (Suffix f.slot (p + 1)) k row (omega (arith, length_both))
+            ∙ ap (λ (i : ℕ). side_count (count G) (drop i (frame_side G f)) k) (add-one p);
       }
 
-      -- the part is below its count
-      pub part_below : d.rank < get_or firsts d.length 0
-      part_below =
-          let o = subst (λ (x : Part). PartOf order G (nonterminal (b - 128)) x) part_is (of (nonterminal (b - 128)) is_nonterminal_here.0) in
-          omega (arith, counted_first ll lists rows_count d.length (omega arith))
-
-      -- the rest is below its count
-      pub rest_below : u.rank < get_or rests u.length 0
-      rest_below = omega (arith, rest.low, counted_rest ll lists rows_count u.length (omega arith))
-
-      -- all ways of the suffix fit
-      pub ways_fit : sum_listed (entry_at firsts) (entry_at rests) (d.length + u.length) (order (d.length + u.length)) < 2 ^ 63
-      ways_fit =
-          let v : drop p (frame_side G f) ≡ nonterminal (b - 128) ∷ drop (p + 1) (frame_side G f) =
-          here.suffix ∙ ap {B = List Symbol} (λ (Y : Symbol). Y ∷ drop (p + 1) (frame_side G f)) (sym same ∙ is_nonterminal_here.0) in
-          omega (
-            arith,
-            sum_count ll lists rows_count,
-            ap {B = ℕ} (λ (Ys : List Symbol). side_count (count G) Ys (d.length + u.length)) v,
-            row_low ll sound (Suffix f.slot p) (d.length + u.length) (inside, there) short,
-          )
+      -- what joining the part and the rest asks: the rows have an entry for each length, the ranks are below the counts, and all ways of the suffix fit
+      pub joins
+          : record {
+            first_long : part.length + u.length < length firsts;
+            rest_long : part.length + u.length < length rests;
+            part_low : part.rank < slice_index firsts part.length;
+            rest_low : u.rank < slice_index rests u.length;
+            small : sum_listed (entry_at firsts) (entry_at rests) (part.length + u.length) (order (part.length + u.length)) < 2 ^ 63;
+          }
+      joins =
+          let b = behind at in
+          record {
+            first_long = omega (arith, length_both, ap {B = ℕ} length first_row, row_long sound (Nonterminal A) known);
+            rest_long = omega (arith, length_both, ap {B = ℕ} length rest_row, row_long sound (Suffix f.slot (p + 1)) row);
+            part_low = omega (arith, of at, counted_first ll lists rows_count part.length (omega arith));
+            rest_low = omega (arith, b.low, counted_rest ll lists rows_count u.length (omega arith));
+            small =
+                omega (
+                  arith,
+                  sum_count ll lists rows_count,
+                  ap {B = ℕ} (λ (Ys : List Symbol). side_count (count G) Ys (part.length + u.length)) at,
+                  row_low sound (Suffix f.slot p) (part.length + u.length) (inside, there) (omega (arith, length_both)),
+                );
+          }
 
       -- a nonterminal with more behind it
-      pub joined_here : (k : ℕ) → Joins order firsts rests d u k → AddsUp order G (drop p (frame_side G f)) (drop p f.parts) (record { length = d.length + u.length; rank = k })
-      joined_here k j =
-          let sum : Part = record { length = d.length + u.length; rank = k } in
-          all_from (nonterminal (b - 128)) is_nonterminal_here.0
-          (subst (λ (x : Part). AddsUp order G (nonterminal (b - 128) ∷ drop (p + 1) (frame_side G f)) (x ∷ drop (p + 1) f.parts) sum) (sym part_is)
-          (add_joined ll lists firsts rests rows_count j rest))
+      pub joined_here : {k : ℕ} → Joins order firsts rests part u k → AddsUpFrom order G f p (record { length = part.length + u.length; rank = k })
+      joined_here j = all_from at (add_joined ll lists firsts rests rows_count j (behind at))
 
-module _ {G : Cfg} {level : ℕ → ℕ} (ll : Ll1 G level) {counts : Counts} (sound : SoundCounts G counts) (A m : ℕ) (short : m ≤ counts.bound) where
+module _ {G : Cfg} {level : ℕ → ℕ} (ll : Ll1 G level) {L : ℕ} {cells offsets : List ℕ} (sound : SoundCells G L cells offsets) (A m : ℕ) (short : m ≤ L) where
   -- the ways of a slot, as they are read
-  pub ways_of_slot : (s : ℕ) → s < G.slots
-      → if_left (left_of (G.slot s)) A (side_ways (right_of (G.slot s)) (counted_row counts (Suffix s 0)) m) ≡ if_left (left_of (G.slot s)) A (slot_ways G m s)
-  ways_of_slot s l = ap (if_left (left_of (G.slot s)) A) (ways_read ll sound s m l short)
+  ways_of_slot : (s : ℕ) → s < G.slots
+      → if_left (left_of (G.slot s)) A (side_ways (right_of (G.slot s)) (row_read sound (Suffix s 0)) m) ≡ if_left (left_of (G.slot s)) A (slot_ways G m s)
+  ways_of_slot s l = ap (if_left (left_of (G.slot s)) A) (ways_read sound s m l short)
 
-  -- one more slot's ways
-  pub ways_more : (s x : ℕ) → s < G.slots → x ≡ if_left (left_of (G.slot s)) A (side_ways (right_of (G.slot s)) (counted_row counts (Suffix s 0)) m)
-      → ways_before G A m (s + 1) ≡ ways_before G A m s + x
-  ways_more s x l e = omega (arith, slots_more G A (slot_ways G m) s, ways_of_slot s l)
+  -- how many ways a slot has, if it is one of A's, as they are read
+  abbrev pub read_ways : ℕ → ℕ
+  read_ways s = if_left (left_of (G.slot s)) A (side_ways (right_of (G.slot s)) (row_read sound (Suffix s 0)) m)
+
+  -- those of the slots from s on, added to those of the slots before
+  ways_listed : (n s : ℕ) → s + n ≤ G.slots → ways_before G A m s + sum_by read_ways (range_with_len s n) ≡ ways_before G A m (s + n)
+  ways_listed zero s l = omega (arith, ap (ways_before G A m) (add-zero s))
+  ways_listed (suc n) s l =
+      let e : s + suc n ≡ (s + 1) + n = omega arith in
+      omega (arith, sum_by-cons read_ways s (range_with_len (s + 1) n), ways_listed n (s + 1) (omega arith), slots_more G A (slot_ways G m) s, ways_of_slot s (omega arith), ap (ways_before G A m) e)
+
+  -- all of the slots before s
+  pub ways_all : (s : ℕ) → s ≤ G.slots → sum_by read_ways (range_with_len 0 s) ≡ ways_before G A m s
+  ways_all s l = omega (arith, ways_listed s 0 (omega arith), ap (ways_before G A m) (zero-add s), slots_none G A (slot_ways G m))
 
   -- the ways of the slots before one of A's, with a rank in that slot, fit
   pub ways_before_fit : (s q r : ℕ) → s ≤ q → q < G.slots → left_of (G.slot q) ≡ Some A → r ≤ slot_ways G m q → ways_before G A m s + r < 2 ^ 63
@@ -147,5 +151,5 @@ module _ {G : Cfg} {level : ℕ → ℕ} (ll : Ll1 G level) {counts : Counts} (s
         slots_le G A (slot_ways G m) s q l,
         ways_before_le ll A m q o,
         own_ways (left_of (G.slot q)) A (slot_ways G m q) own,
-        row_low ll sound (Nonterminal A) m known short,
+        row_low sound (Nonterminal A) m known short,
       )

@@ -1,5 +1,5 @@
 -- Where a parse stands: the frame at work, the suspended frames below it, and the tokens that are gone. Assumes nothing.
-use Rattle.std.specs.Prelude.{◌≡◌, ℕ, ◌<◌, ◌≤◌, Bool, true, false, List, [], ◌∷◌, ◌++◌, map, length, take, drop, Some, None, Ok, Err, Option, Result}
+use Rattle.std.specs.Prelude.{◌≡◌, ℕ, ◌<◌, ◌≤◌, List, [], ◌∷◌, ◌++◌, map, length, take, drop, Some, Ok, Err, Option, Result}
 use Rattle.theory.specs.Lists.{joined}
 use Rattle.theory.specs.Grammar.{Symbol, nonterminal, Cfg}
 use Rattle.theory.specs.Sets.{Next}
@@ -11,14 +11,13 @@ use Rattle.walk.specs.Depth.{Place, suffix_of, next_place, Chain}
 use Rattle.walk.specs.Measure.{measure}
 use Rattle.parser.specs.Parser.{StopsAfter}
 use Rattle.parser.proofs.Steps.{ComesTo}
-use Rattle.numbering.specs.Parts.{begun, frame_side, AllParts, all_tokens}
+use Rattle.numbering.specs.Parts.{frame_side, AllParts, all_tokens}
 use Rattle.numbering.specs.declared.frame.Frame.{Frame}
-use Rattle.numbering.specs.declared.parsing.Progress.{Progress}
-use Rattle.numbering.specs.declared.parsing.Progress.TheVariants.{Going, Ended, Stopped}
+use Rattle.numbering.specs.declared.parsing.Stopped.{Stopped}
 
 -- the suspended frames, the last one first
 abbrev pub suspended_frames : Stack Frame → List Frame
-suspended_frames s = held s.entries.now s.depth
+suspended_frames s = held s
 
 -- how many frames there is room for
 abbrev pub room_of : Stack Frame → ℕ
@@ -85,19 +84,11 @@ pub record Goes_on (order : LengthOrder) (G : Cfg) (chosen : ℕ → Next → Op
   pub at : ParseAt order G chosen level tokens g gs gone
   pub falls : measure G room (places g gs) < measure G room (places f fs)
 
--- what a step comes to
-abbrev pub StepAnswer : LengthOrder → Cfg → (ℕ → Next → Option ℕ) → (ℕ → ℕ) → List ℕ → ℕ → Frame → List Frame → Frame → List Frame → Progress → Type 0
-StepAnswer order G chosen level tokens room f fs g gs (Going gone) = Goes_on order G chosen level tokens room f fs g gs gone
-StepAnswer order G chosen level tokens room f fs g gs (Ended k) = Rank G order G.start tokens k
-StepAnswer order G chosen level tokens room f fs g gs (Stopped gone) = StopsAfter G chosen (nonterminal G.start ∷ []) tokens gone
-
--- what opening a frame for a nonterminal of which `choice` is chosen leaves: true where there is one, with the frame at work suspended and the new one at the front of that slot;
--- else nothing is changed
-abbrev pub Opens : Option ℕ → Frame → List Frame → Frame → List Frame → Bool → Type 0
-Opens choice f fs g gs true = (s : ℕ) × (choice ≡ Some s) × (g ≡ begun f s) × (gs ≡ f ∷ fs)
-Opens choice f fs g gs false = choice ≡ None
+-- the parse of the tokens stops when so many are gone
+abbrev pub ParseStops : Cfg → (ℕ → Next → Option ℕ) → List ℕ → Stopped → Type 0
+ParseStops G chosen tokens stopped = StopsAfter G chosen (nonterminal G.start ∷ []) tokens stopped.gone
 
 -- how a parse ends: the rank of the tokens, or how many of them are gone where it stops
-abbrev pub ParseAnswer : LengthOrder → Cfg → (ℕ → Next → Option ℕ) → List ℕ → Result ℕ ℕ → Type 0
+abbrev pub ParseAnswer : LengthOrder → Cfg → (ℕ → Next → Option ℕ) → List ℕ → Result ℕ Stopped → Type 0
 ParseAnswer order G chosen tokens (Ok k) = Rank G order G.start tokens k
-ParseAnswer order G chosen tokens (Err gone) = StopsAfter G chosen (nonterminal G.start ∷ []) tokens gone
+ParseAnswer order G chosen tokens (Err stopped) = ParseStops G chosen tokens stopped

@@ -1,5 +1,5 @@
 -- The parts of symbols that have been parsed, and how they add up. Assumes nothing.
-use Rattle.std.specs.Prelude.{◌≡◌, ℕ, ◌+◌, ◌<◌, List, [], ◌∷◌, length, get_or, replicate, Some, slice_index, slice_index_or, slice_set}
+use Rattle.std.specs.Prelude.{◌≡◌, ℕ, ◌+◌, ◌<◌, List, [], ◌∷◌, length, get_or, drop, replicate, Some, slice_index, slice_index_or, slice_set}
 use Rattle.theory.specs.Lists.{joined}
 use Rattle.theory.specs.Grammar.{Symbol, nonterminal, Cfg}
 use Rattle.theory.specs.Order.{LengthOrder}
@@ -54,6 +54,18 @@ all_tokens order G (X ∷ Xs) (d ∷ ds) = part_tokens order G X d ∷ all_token
 pub record AddsUp (order : LengthOrder) (G : Cfg) (Xs : List Symbol) (ds : List Part) (sum : Part) : Type 0 where
   pub low : sum.rank < length (ways order G Xs sum.length)
   pub is : get_or (ways order G Xs sum.length) sum.rank [] ≡ all_tokens order G Xs ds
+
+-- each of the symbols from position p of a frame on has its part
+abbrev pub PartsFrom : LengthOrder → Cfg → Frame → ℕ → Type 0
+PartsFrom order G f p = AllParts order G (drop p (frame_side G f)) (drop p f.parts)
+
+-- the tokens of all of them
+abbrev pub tokens_from : LengthOrder → Cfg → Frame → ℕ → List ℕ
+tokens_from order G f p = joined (all_tokens order G (drop p (frame_side G f)) (drop p f.parts))
+
+-- their parts add up to one
+abbrev pub AddsUpFrom : LengthOrder → Cfg → Frame → ℕ → Part → Type 0
+AddsUpFrom order G f p sum = AddsUp order G (drop p (frame_side G f)) (drop p f.parts) sum
 
 -- the entry of a row at a length, 0 past its end
 abbrev pub entry_at : List ℕ → ℕ → ℕ

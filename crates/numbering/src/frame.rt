@@ -4,7 +4,7 @@ ghost use Rattle.std.specs.Prelude.{◌≡◌, ◌+◌, ◌<◌};
 ghost use Rattle.numbering.specs.Parts.{blank_frame, begun, with_part};
 
 /// What is known of a symbol that has been parsed: how many tokens it has, and its rank among its parts of that length.
-#[derive(Clone, Copy)]
+#[derive(Clone, Copy, Default, PartialEq, Eq, Debug)]
 pub(crate) struct Part {
     pub(crate) length: usize,
     pub(crate) rank: u64,
@@ -13,7 +13,8 @@ pub(crate) struct Part {
 /// A right-hand side that is being parsed: a slot, a position in its right-hand side, and the parts of the symbols before that position.
 ///
 /// The stack that a caller lends is a slice of frames.
-#[derive(Clone, Copy)]
+// An array for the most symbols that a right-hand side has, with a position beside it: a flight kit has no heap.
+#[derive(Clone, Copy, PartialEq, Eq, Debug)]
 pub struct Frame {
     pub(crate) slot: u8,
     pub(crate) position: u8,
@@ -28,7 +29,7 @@ impl Frame {
         Frame {
             slot: 0,
             position: 0,
-            parts: [Part { length: 0, rank: 0 }; 6],
+            parts: [Part::default(); 6],
         }
     }
 
@@ -45,7 +46,7 @@ impl Frame {
         requires { self.old.position < 6 }
         ensures { self.new ≡ with_part self.old part }
     {
-        self.parts[self.position as usize] = part;
+        self.parts[usize::from(self.position)] = part;
         self.position += 1;
     }
 }

@@ -9,7 +9,8 @@ ghost use Rattle.numbering.specs.Calls.{lent_stack, NumberAnswer};
 use fault::Fault;
 pub use frame::Frame;
 use grammar::Grammar;
-use parsing::parse;
+use parsing::rank;
+use ranking::Ranking;
 use table::{Counts, Lent, Table, checked};
 use walk::ShortestFirst;
 
@@ -17,27 +18,20 @@ mod frame;
 mod parsing;
 mod ranking;
 
-// The check before the tokens are numbered, with a stack of so many entries.
+// The counts of the table, if it may be used to number these tokens with so many entries of a stack.
 fn counts_for<'a, G: Grammar>(
-    g: &G,
+    g: &'a G,
     table: &'a Table<'_>,
     tokens: &[u8],
     entries: usize,
-) -> Result<Counts<'a>, Fault>
-    ensures { CheckedAnswer (G.meaning g.now) table.now.bound table.now.cells.now (length tokens.now) (lent_stack entries) result }
+) -> Result<Counts<'a, G>, Fault>
+    ensures { CheckedAnswer g.now table.now.bound table.now.cells.now (length tokens.now) (lent_stack entries) result }
 {
     let lent = Lent {
         stack: Some(entries),
         output: None,
     };
     checked(g, table, tokens.len(), lent)
-}
-
-// The fault of a parse that stops when so many tokens are gone.
-fn stopped(gone: usize) -> Fault
-    ensures { result ≡ Fault.ParseStopped gone }
-{
-    Fault::ParseStopped(gone as u64)
 }
 
 /// How many sentences of the start that are as long as `tokens` precede `tokens` in split order. The stack is working memory.
@@ -54,8 +48,9 @@ pub fn number<G: Grammar>(
     ensures { NumberAnswer (G.meaning g.now) (G.chosen g.now) table.now.bound table.now.cells.now (length stack.old) tokens.now result }
 {
     let counts = counts_for(g, table, tokens, stack.len())?;
-    match parse(g, &ShortestFirst, &counts, tokens, stack) {
-        Ok(rank) => Ok(rank),
-        Err(gone) => Err(stopped(gone)),
-    }
+    let ranking = Ranking {
+        counts: &counts,
+        policy: &ShortestFirst,
+    };
+    Ok(rank(ranking, tokens, stack)?)
 }

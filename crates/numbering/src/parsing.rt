@@ -1,168 +1,160 @@
 //! The parse of tokens, with the rank of each part.
 
-ghost use Rattle.std.specs.Prelude.{◌≡◌, ◌+◌, ◌*◌, ◌<◌, ◌≤◌, length, drop, Decides};
-ghost use Rattle.theory.specs.Sets.{token, next_of};
-ghost use Rattle.grammar.specs.Interface.{next_of_lookahead};
-ghost use Rattle.table.specs.Reading.{SoundCounts};
-ghost use Rattle.numbering.specs.Parts.{frame_side};
-ghost use Rattle.numbering.specs.Frames.{suspended_frames, room_of, ParseAt, StepAnswer, Opens, ParseAnswer};
+ghost use Rattle.std.specs.Prelude.{◌≡◌, ◌+◌, ◌*◌, ◌≤◌, length};
+ghost use Rattle.table.specs.CountsOf.{grammar_of, bound_of};
+ghost use Rattle.numbering.specs.Frames.{room_of, ParseStops, ParseAnswer};
 
 use crate::frame::{Frame, Part};
-use crate::ranking::whole_part;
-use grammar::{Grammar, Lookahead};
+use crate::ranking::Ranking;
+use fault::Fault;
+use grammar::{Grammar, Symbol};
 use stack::Stack;
-use table::Counts;
 use walk::LengthPolicy;
 
-/// What a step of a parse comes to: it goes on with so many tokens gone, or the tokens have that rank, or it stops with so many gone.
-#[derive(Clone, Copy)]
-pub(crate) enum Progress {
-    Going(usize),
-    Ended(u64),
-    Stopped(usize),
+/// A parse stops when so many tokens are gone.
+#[derive(Clone, Copy, Debug)]
+pub(crate) struct Stopped {
+    pub(crate) gone: usize,
 }
 
-// What comes next where `gone` tokens are gone.
-fn lookahead(tokens: &[u8], gone: usize) -> Lookahead
-    ensures { next_of_lookahead result ≡ next_of (drop gone tokens.now) }
-{
-    if gone < tokens.len() {
-        Lookahead::Token(tokens[gone])
-    } else {
-        Lookahead::End
+impl From<Stopped> for Fault {
+    ghost use Rattle.fault.specs.declared.Fault.TheVariants.{ParseStopped};
+
+    ghost from_gives = { λ e f. f ≡ ParseStopped e.gone };
+
+    fn from(stopped: Stopped) -> Fault {
+        Fault::ParseStopped(stopped.gone as u64)
     }
 }
 
-// Whether the next token is terminal `t`.
-fn is_next(tokens: &[u8], gone: usize, t: u8) -> bool
-    ensures { Decides result (next_of (drop gone tokens.now) ≡ token t) }
-{
-    gone < tokens.len() && tokens[gone] == t
-}
-
-// Suspends the frame at work and begins one for nonterminal `a`; false where no slot is chosen for it.
-fn open<G: Grammar>(
-    g: &G,
-    tokens: &[u8],
-    suspended: &mut Stack<'_, Frame>,
-    frame: &mut Frame,
+/// A parse of tokens: the frame at work, those that are suspended, and how many tokens are gone.
+// Where it stands is asked of its methods (`Stands`): answers are read from that fact, which a ghost field would keep truncated.
+#[derive(Drop)]
+pub(crate) struct Parse<'a, G: Grammar, O> {
+    ranking: Ranking<'a, G, O>,
+    tokens: &'a [u8],
+    suspended: Stack<'a, Frame>,
+    frame: Frame,
     gone: usize,
-    a: u8,
-) -> bool
-    requires { suspended.old.depth < room_of suspended.old }
-    ensures opens { Opens (G.chosen g.now a (next_of (drop gone tokens.now))) frame.old (suspended_frames suspended.old) frame.new (suspended_frames suspended.new) result }
-    ensures room { room_of suspended.new ≡ room_of suspended.old }
-{
-    let Some(slot) = g.choice(a, lookahead(tokens, gone)) else {
-        return false;
-    };
-    if !suspended.push(*frame) {
-        unreachable()
-    }
-    frame.begin(slot);
-    true
+    ghost short: { length tokens.now ≤ bound_of ranking.counts.now },
+    ghost room: { (length tokens.now + 1) * (grammar_of ranking.counts.now).nonterminals ≤ room_of suspended },
 }
 
-// Leaves the frame at work, all of whose symbols have their parts, for the last suspended one.
-fn close<G: Grammar, O: LengthPolicy>(
-    g: &G,
-    policy: &O,
-    counts: &Counts<'_>,
-    tokens: &[u8],
-    suspended: &mut Stack<'_, Frame>,
-    frame: &mut Frame,
-    gone: usize,
-) -> Progress
-    requires sound { SoundCounts (G.meaning g.now) counts.now }
-    requires short { length tokens.now ≤ counts.now.bound }
-    requires room { (length tokens.now + 1) * (G.meaning g.now).nonterminals ≤ room_of suspended.old }
-    requires at { ParseAt (O.order policy.now) (G.meaning g.now) (G.chosen g.now) (G.levels g.now) tokens.now frame.old (suspended_frames suspended.old) gone }
-    requires done { frame.old.position ≡ length (frame_side (G.meaning g.now) frame.old) }
-    ensures answer { StepAnswer (O.order policy.now) (G.meaning g.now) (G.chosen g.now) (G.levels g.now) tokens.now (room_of suspended.old) frame.old (suspended_frames suspended.old) frame.new (suspended_frames suspended.new) result }
-    ensures room { room_of suspended.new ≡ room_of suspended.old }
-{
-    let part = whole_part(g, policy, counts, frame);
-    match suspended.pop() {
-        Some(below) => {
-            *frame = below;
-            frame.note(part);
-            Progress::Going(gone)
+impl<'a, G: Grammar, O: LengthPolicy> Parse<'a, G, O> {
+    ghost use Rattle.std.specs.Prelude.{MatchResult, drop};
+    ghost use Rattle.theory.specs.Sets.{next_of};
+    ghost use Rattle.grammar.specs.Interface.{next_of_lookahead};
+    ghost use Rattle.numbering.specs.Parses.{Stands, symbol_here, ParseOf, Goes, Stops, StepAnswer};
+
+    /// The parse at the front of the slot that is chosen for the start, with a stack for the frames that are suspended.
+    pub(crate) fn begin(
+        ranking: Ranking<'a, G, O>,
+        tokens: &'a [u8],
+        stack: &'a mut [Frame],
+    ) -> Result<Parse<'a, G, O>, Stopped>
+        requires short { length tokens.now ≤ bound_of ranking.counts.now }
+        requires room { (length tokens.now + 1) * (grammar_of ranking.counts.now).nonterminals ≤ length stack.old }
+        ensures { MatchResult result (ParseOf O.order ranking.entry tokens.now) (ParseStops (grammar_of ranking.entry.counts.now) (G.chosen ranking.entry.counts.now.grammar.now) tokens.now) }
+    {
+        let grammar = ranking.counts.grammar;
+        let slot = grammar
+            .choice(grammar.start(), tokens.first().copied())
+            .ok_or(Stopped { gone: 0 })?;
+        Ok(Parse {
+            ranking,
+            tokens,
+            suspended: Stack::over(stack),
+            frame: Frame {
+                slot,
+                ..Frame::blank()
+            },
+            gone: 0,
+        })
+    }
+
+    // The next token; none at the end.
+    fn lookahead(&self) -> Option<u8>
+        ensures { next_of_lookahead result ≡ next_of (drop self.now.gone self.now.tokens.now) }
+    {
+        self.tokens.get(self.gone).copied()
+    }
+
+    // Passes terminal `t`.
+    fn pass(&mut self, t: u8) -> Result<(), Stopped>
+        requires at { Stands O.order self.old }
+        requires here { Some (Symbol.Terminal t) ≡ symbol_here self.old }
+        ensures { MatchResult result (λ _. Goes O.order self.old self.new) (Stops self.old) }
+    {
+        if self.lookahead() != Some(t) {
+            return Err(Stopped { gone: self.gone });
         }
-        None => {
-            if gone < tokens.len() {
-                Progress::Stopped(gone)
-            } else {
-                Progress::Ended(part.rank)
-            }
+        self.frame.note(Part { length: 1, rank: 0 });
+        self.gone += 1;
+        Ok(())
+    }
+
+    // Suspends the frame at work and begins one for nonterminal `a`.
+    fn open(&mut self, a: u8) -> Result<(), Stopped>
+        requires at { Stands O.order self.old }
+        requires here { Some (Symbol.Nonterminal a) ≡ symbol_here self.old }
+        ensures { MatchResult result (λ _. Goes O.order self.old self.new) (Stops self.old) }
+    {
+        let grammar = self.ranking.counts.grammar;
+        let slot = grammar
+            .choice(a, self.lookahead())
+            .ok_or(Stopped { gone: self.gone })?;
+        self.suspended.push(self.frame).unwrap();
+        self.frame.begin(slot);
+        Ok(())
+    }
+
+    // Leaves the frame at work, all of whose symbols have their parts, for the last suspended one; where there is none, answers the rank of the tokens.
+    fn close(&mut self) -> Result<Option<u64>, Stopped>
+        requires at { Stands O.order self.old }
+        requires here { None ≡ symbol_here self.old }
+        ensures { StepAnswer O.order self.old self.new result }
+    {
+        let part = self.ranking.whole_part(&self.frame);
+        if let Some(below) = self.suspended.pop() {
+            self.frame = below;
+            self.frame.note(part);
+            return Ok(None);
         }
+        if self.gone < self.tokens.len() {
+            return Err(Stopped { gone: self.gone });
+        }
+        Ok(Some(part.rank))
+    }
+
+    // One step; answers the rank of the tokens once they are parsed.
+    fn step(&mut self) -> Result<Option<u64>, Stopped>
+        requires { Stands O.order self.old }
+        ensures { StepAnswer O.order self.old self.new result }
+    {
+        let grammar = self.ranking.counts.grammar;
+        match grammar.symbol_at(self.frame.slot, self.frame.position) {
+            Some(Symbol::Terminal(t)) => self.pass(t)?,
+            Some(Symbol::Nonterminal(a)) => self.open(a)?,
+            None => return self.close(),
+        }
+        Ok(None)
     }
 }
 
-// One step of a parse.
-fn step<G: Grammar, O: LengthPolicy>(
-    g: &G,
-    policy: &O,
-    counts: &Counts<'_>,
-    tokens: &[u8],
-    suspended: &mut Stack<'_, Frame>,
-    frame: &mut Frame,
-    gone: usize,
-) -> Progress
-    requires sound { SoundCounts (G.meaning g.now) counts.now }
-    requires short { length tokens.now ≤ counts.now.bound }
-    requires room { (length tokens.now + 1) * (G.meaning g.now).nonterminals ≤ room_of suspended.old }
-    requires at { ParseAt (O.order policy.now) (G.meaning g.now) (G.chosen g.now) (G.levels g.now) tokens.now frame.old (suspended_frames suspended.old) gone }
-    ensures answer { StepAnswer (O.order policy.now) (G.meaning g.now) (G.chosen g.now) (G.levels g.now) tokens.now (room_of suspended.old) frame.old (suspended_frames suspended.old) frame.new (suspended_frames suspended.new) result }
-    ensures room { room_of suspended.new ≡ room_of suspended.old }
+/// The rank of the tokens among the sentences of the start, with a stack for the frames that are suspended.
+pub(crate) fn rank<'a, G: Grammar, O: LengthPolicy>(
+    ranking: Ranking<'a, G, O>,
+    tokens: &'a [u8],
+    stack: &'a mut [Frame],
+) -> Result<u64, Stopped>
+    requires short { length tokens.now ≤ bound_of ranking.counts.now }
+    requires room { (length tokens.now + 1) * (grammar_of ranking.counts.now).nonterminals ≤ length stack.old }
+    ensures { ParseAnswer (O.order ranking.entry.policy.now) (grammar_of ranking.entry.counts.now) (G.chosen ranking.entry.counts.now.grammar.now) tokens.now result }
 {
-    let Some(symbol) = g.symbol(frame.slot, frame.position) else {
-        return close(g, policy, counts, tokens, suspended, frame, gone);
-    };
-    if symbol < 128 {
-        if !is_next(tokens, gone, symbol) {
-            return Progress::Stopped(gone);
-        }
-        frame.note(Part { length: 1, rank: 0 });
-        return Progress::Going(gone + 1);
-    }
-    if open(g, tokens, suspended, frame, gone, symbol - 128) {
-        Progress::Going(gone)
-    } else {
-        Progress::Stopped(gone)
-    }
-}
-
-/// The rank of the tokens among the sentences of the start, or how many of them are gone where their parse stops.
-pub(crate) fn parse<G: Grammar, O: LengthPolicy>(
-    g: &G,
-    policy: &O,
-    counts: &Counts<'_>,
-    tokens: &[u8],
-    stack: &mut [Frame],
-) -> Result<u64, usize>
-    requires sound { SoundCounts (G.meaning g.now) counts.now }
-    requires short { length tokens.now ≤ counts.now.bound }
-    requires room { (length tokens.now + 1) * (G.meaning g.now).nonterminals ≤ length stack.old }
-    ensures { ParseAnswer (O.order policy.now) (G.meaning g.now) (G.chosen g.now) tokens.now result }
-{
-    let Some(slot) = g.choice(g.start(), lookahead(tokens, 0)) else {
-        return Err(0);
-    };
-    let mut suspended = Stack::over(stack);
-    let mut frame = Frame::blank();
-    frame.begin(slot);
-    let mut gone = 0;
+    let mut parse = Parse::begin(ranking, tokens, stack)?;
     loop {
-        match step(g, policy, counts, tokens, &mut suspended, &mut frame, gone) {
-            Progress::Going(next) => {
-                gone = next;
-            }
-            Progress::Ended(rank) => {
-                return Ok(rank);
-            }
-            Progress::Stopped(gone) => {
-                return Err(gone);
-            }
+        if let Some(rank) = parse.step()? {
+            return Ok(rank);
         }
     }
 }

@@ -1,26 +1,23 @@
 -- The texts of keywords: letters only, and no two are the same.
-use Rattle.std.proofs.Common.{◌≡◌, ℕ, ◌≤◌, Bool, true, false, cond, not, ◌&&◌, eqb, leb, List, [], ◌∷◌, ◌++◌, length, IsUtf8, IsAscii, sym, refl, ap, ◌∙◌, arith, eqb-true, leb-true}
-use borrow.Author.Tests.{clash}
-use Rattle.std.proofs.lemmas.Str.Ascii.{IsAscii-nil, IsAscii-cons}
-use Rattle.std.proofs.lemmas.Str.{IsUtf8-from_ascii}
+use Rattle.std.proofs.Common.{◌≡◌, ℕ, ◌≤◌, Bool, true, cond, ◌&&◌, leb, List, [], ◌∷◌, length, sym, refl, ap, ◌∙◌, arith}
+use Rattle.std.specs.List.{AllPass, list_all}
 use Rattle.std.specs.Str.{bytes_eq}
+use Rattle.std.proofs.lemmas.Bool.{and_parts, leb-true, ne_eqb}
+use Rattle.std.proofs.lemmas.List.Elements.{All-head, All-weaker}
+use Rattle.std.proofs.lemmas.List.Sums.{AllPass-from_list_all}
+use Rattle.script.specs.Text.{spaced}
 use Rattle.script.specs.Says.{text, IsBlank}
 use Rattle.script.specs.declared.keyword.Keyword.{Keyword}
 use Rattle.script.specs.declared.keyword.Keyword.TheVariants.{Brackets, Neutral, Restrict, Start, Choice, Level, Memory, Bound, Count, Check, Table, Cell, Flip, Poke}
-use Rattle.script.proofs.Cutting.{plain}
+use Rattle.script.proofs.Cutting.{Plain}
 
 -- a byte is a small letter
 abbrev letter : ℕ → Bool
 letter b = leb 97 b && leb b 122
 
--- each byte is a small letter
-abbrev letters : List ℕ → Bool
-letters [] = true
-letters (b ∷ bs) = letter b && letters bs
-
 -- one to eight small letters
 abbrev word : List ℕ → Bool
-word w = letters w && (leb 1 (length w) && leb (length w) 8)
+word w = list_all letter w && (leb 1 (length w) && leb (length w) 8)
 
 text_word : (k : Keyword) → word (text k) ≡ true
 text_word Brackets = refl
@@ -38,50 +35,30 @@ text_word Cell = refl
 text_word Flip = refl
 text_word Poke = refl
 
--- the parts of a test
-pub both : (a b : Bool) → (a && b) ≡ true → (a ≡ true) × (b ≡ true)
-both true b h = (refl, h)
-both false b h = absurd (clash h)
+text_letters : (k : Keyword) → AllPass letter (text k)
+text_letters k = AllPass-from_list_all letter (text k) (and_parts (list_all letter (text k)) _ (text_word k)).0
 
-text_letters : (k : Keyword) → letters (text k) ≡ true
-text_letters k = (both (letters (text k)) _ (text_word k)).0
-
-text_some : (k : Keyword) → 1 ≤ length (text k)
-text_some k = leb-true 1 (length (text k)) (both (leb 1 (length (text k))) _ (both (letters (text k)) _ (text_word k)).1).0
+text_sizes : (k : Keyword) → (1 ≤ length (text k)) × (length (text k) ≤ 8)
+text_sizes k = let p = and_parts (leb 1 (length (text k))) _ (and_parts (list_all letter (text k)) _ (text_word k)).1 in (leb-true 1 _ p.0, leb-true _ 8 p.1)
 
 pub text_length : (k : Keyword) → length (text k) ≤ 8
-text_length k = leb-true (length (text k)) 8 (both (leb 1 (length (text k))) _ (both (letters (text k)) _ (text_word k)).1).1
+text_length k = (text_sizes k).1
 
 letter_range : (b : ℕ) → letter b ≡ true → (97 ≤ b) × (b ≤ 122)
-letter_range b h = let p = both (leb 97 b) (leb b 122) h in (leb-true 97 b p.0, leb-true b 122 p.1)
-
-letters_ascii : (w : List ℕ) → letters w ≡ true → IsAscii w
-letters_ascii [] h = IsAscii-nil
-letters_ascii (b ∷ bs) h = let p = both (letter b) (letters bs) h in let r = letter_range b p.0 in IsAscii-cons b bs (omega arith) (letters_ascii bs p.1)
-
--- a keyword is text
-pub utf8_text : (k : Keyword) → IsUtf8 (text k)
-utf8_text k = IsUtf8-from_ascii (text k) (letters_ascii (text k) (text_letters k))
-
-plain_front : (b : ℕ) (bs : List ℕ) (q : Bool) → eqb b 32 ≡ q → 97 ≤ b → plain bs ≡ true → (not q && plain bs) ≡ true
-plain_front b bs true e l h = let z = eqb-true b 32 e in absurd (omega arith)
-plain_front b bs false e l h = h
-
-letters_plain : (w : List ℕ) → letters w ≡ true → plain w ≡ true
-letters_plain [] h = refl
-letters_plain (b ∷ bs) h = let p = both (letter b) (letters bs) h in plain_front b bs (eqb b 32) refl (letter_range b p.0).0 (letters_plain bs p.1)
+letter_range b h = let p = and_parts (leb 97 b) (leb b 122) h in (leb-true 97 b p.0, leb-true b 122 p.1)
 
 -- a keyword has no space
-pub plain_text : (k : Keyword) → plain (text k) ≡ true
-plain_text k = letters_plain (text k) (text_letters k)
+pub plain_text : (k : Keyword) → Plain (text k)
+plain_text k = All-weaker _ _ (λ b h. let r = letter_range b h in ne_eqb b 32 (λ e. omega arith)) (text k) (text_letters k)
 
-letters_blank : (w rest : List ℕ) → letters w ≡ true → 1 ≤ length w → IsBlank (w ++ rest) → ⊥
-letters_blank [] rest h l e = omega arith
-letters_blank (b ∷ bs) rest h l e = let p = both (letter b) (letters bs) h in let r = (letter_range b p.0).0 in omega arith
+letters_blank : (w : List ℕ) (ws : List (List ℕ)) → AllPass letter w → 1 ≤ length w → IsBlank (spaced (w ∷ ws)) → ⊥
+letters_blank [] ws h l e = absurd (omega arith)
+letters_blank (b ∷ bs) [] h l e = let r = letter_range b (All-head (λ x. letter x ≡ true) b bs h) in omega arith
+letters_blank (b ∷ bs) (v ∷ vs) h l e = let r = letter_range b (All-head (λ x. letter x ≡ true) b bs h) in omega arith
 
 -- a line that begins with a keyword is not blank
-pub text_blank : (k : Keyword) (rest : List ℕ) → IsBlank (text k ++ rest) → ⊥
-text_blank k rest = letters_blank (text k) rest (text_letters k) (text_some k)
+pub text_blank : (k : Keyword) (ws : List (List ℕ)) → IsBlank (spaced (text k ∷ ws)) → ⊥
+text_blank k ws = letters_blank (text k) ws (text_letters k) (text_sizes k).0
 
 -- the keyword of a text
 named : List ℕ → Keyword

@@ -1,6 +1,10 @@
 -- A line says one command at most, and read words give the command that it says.
-use Rattle.std.proofs.Common.{◌≡◌, ℕ, zero, suc, pred, ◌<◌, true, List, [], ◌∷◌, map, length, get_or, Some, None, codes, Option, sym, refl, ap, ◌∙◌, subst, arith, MatchOption}
-use Rattle.std.proofs.lemmas.List.{take_all}
+use Rattle.std.proofs.Common.{◌≡◌, ℕ, zero, suc, pred, ◌<◌, false, not, List, [], ◌∷◌, map, length, get_or, Some, None, codes, Option, sym, refl, ap, ◌∙◌, subst, arith, MatchOption}
+use Rattle.std.specs.List.{All}
+use Rattle.std.proofs.lemmas.Bool.{ne_eqb, not-true}
+use Rattle.std.proofs.lemmas.List.Elements.{All-cons, All-from_get_or, All-nil, All-same, All-weaker}
+use Rattle.std.proofs.lemmas.List.Splits.{join_with_byte-slice_split}
+use Rattle.std.proofs.lemmas.List.Sums.{AllPass-from_list_all}
 use Rattle.script.specs.Text.{Numeral, spaced}
 use Rattle.script.specs.Cut.{cut}
 use Rattle.script.specs.Says.{Argument, number, end, text, keyword_of, arguments, Writes, WriteAll, Says}
@@ -8,56 +12,50 @@ use Rattle.script.specs.Shapes.{Refused, shape}
 use Rattle.script.specs.Laws.{OneCommand, OneReading}
 use Rattle.script.specs.declared.keyword.Keyword.{Keyword}
 use Rattle.script.specs.declared.keyword.Keyword.TheVariants as key
-use Rattle.script.specs.declared.NextWord.{NextWord}
-use Rattle.script.specs.declared.NextWord.TheVariants.{Terminal, End}
 use Rattle.script.specs.declared.Line.TheVariants as line
 use Rattle.script.specs.declared.Command.{Command}
 use Rattle.script.specs.declared.Command.TheVariants.{Brackets, Neutral, Restrict, Start, Choice, Level, Memory, Bound, Count, Check, Table, Cell, Flip, Poke}
-use Rattle.script.proofs.Cutting.{plain, Plain, plain_take, cut_spaced, spaced_cut, cut_some, SomeWord}
+use Rattle.script.proofs.Cutting.{space, Plain, cut_spaced}
 use Rattle.script.proofs.Keywords.{plain_text, text_injective}
 
-numeral_plain : (w : List ℕ) (v : ℕ) → Numeral w v → plain w ≡ true
-numeral_plain w v n = subst (λ (x : List ℕ). plain x ≡ true) (take_all (length w) w (omega arith)) (plain_take w (length w) (λ k l e. let d = n.digits k l in omega arith))
+numeral_plain : (w : List ℕ) (v : ℕ) → Numeral w v → Plain w
+numeral_plain w v n = All-from_get_or (λ b. space b ≡ false) w 0 (λ i l. ne_eqb (get_or w i 0) 32 (λ e. let d = n.digits i l in omega arith))
 
-writes_plain : (a : Argument) (w : List ℕ) → Writes a w → plain w ≡ true
+writes_plain : (a : Argument) (w : List ℕ) → Writes a w → Plain w
 writes_plain (number l v) w h = numeral_plain w v h.0
-writes_plain end w h = ap plain h
+writes_plain end w h = All-same (λ b. space b ≡ false) w (codes "end") h (All-weaker _ _ (λ b e. not-true (space b) e) (codes "end") (AllPass-from_list_all (λ b. not (space b)) (codes "end") refl))
 
-write_plain : (more : List Argument) (ws : List (List ℕ)) → WriteAll more ws → Plain ws
-write_plain [] [] h = tt
+write_plain : (more : List Argument) (ws : List (List ℕ)) → WriteAll more ws → All Plain ws
+write_plain [] [] h = All-nil Plain
 write_plain [] (w ∷ ws) h = absurd h
 write_plain (a ∷ more) [] h = absurd h
-write_plain (a ∷ more) (w ∷ ws) h = (writes_plain a w h.0, write_plain more ws h.1)
+write_plain (a ∷ more) (w ∷ ws) h = All-cons Plain w ws (writes_plain a w h.0) (write_plain more ws h.1)
 
 -- the words of a line that says a command
 pub says_cut : (bytes : List ℕ) (c : Command) (s : Says bytes c) → cut bytes ≡ text (keyword_of c) ∷ s.words
-says_cut bytes c s = ap cut s.joined ∙ cut_spaced (text (keyword_of c)) s.words (plain_text (keyword_of c)) (write_plain (arguments c) s.words s.written)
+says_cut bytes c s = ap cut s.joined ∙ cut_spaced (text (keyword_of c)) s.words (All-cons Plain _ _ (plain_text (keyword_of c)) (write_plain (arguments c) s.words s.written))
 
 -- a command whose keyword and arguments are the words of a line
 pub says_from : (bytes w : List ℕ) (rest : List (List ℕ)) (k : Keyword) (c : Command) → cut bytes ≡ w ∷ rest → w ≡ text k → keyword_of c ≡ k → WriteAll (arguments c) rest → Says bytes c
 says_from bytes w rest k c e f g h =
-    record { words = rest; joined = sym (spaced_cut bytes) ∙ ap spaced (e ∙ ap (λ (x : List ℕ). x ∷ rest) (f ∙ ap text (sym g))); written = h }
+    record { words = rest; joined = sym (join_with_byte-slice_split 32 bytes) ∙ ap spaced (e ∙ ap (λ (x : List ℕ). x ∷ rest) (f ∙ ap text (sym g))); written = h }
 
 -- arguments of a command are none where its shape is refused
 refuse : (c : Command) (ws : List (List ℕ)) → Refused (shape (keyword_of c)) ws → WriteAll (arguments c) ws → ⊥
-refuse (Brackets v) ws h = h v
+refuse (Brackets v) ws h = h (v ∷ []) refl
 refuse Neutral ws h = h
-refuse (Restrict v) ws h = h v
-refuse (Start v) ws h = h v
+refuse (Restrict v) ws h = h (v ∷ []) refl
+refuse (Start v) ws h = h (v ∷ []) refl
 refuse (Choice v x) ws h = h v x
-refuse (Level v) ws h = h v
-refuse (Memory a b v) ws h = h a b v
-refuse (Bound v) ws h = h v
+refuse (Level v) ws h = h (v ∷ []) refl
+refuse (Memory a b v) ws h = h (a ∷ b ∷ v ∷ []) refl
+refuse (Bound v) ws h = h (v ∷ []) refl
 refuse Count ws h = h
 refuse Check ws h = h
 refuse Table ws h = h
-refuse (Cell v) ws h = h v
-refuse (Flip a b) ws h = h a b
-refuse (Poke a b) ws h = h a b
-
--- a line without a keyword says nothing
-pub says_no_keyword : (bytes w : List ℕ) (rest : List (List ℕ)) → cut bytes ≡ w ∷ rest → ((k : Keyword) → w ≡ text k → ⊥) → (c : Command) → Says bytes c → ⊥
-says_no_keyword bytes w rest e h c s = let f = says_cut bytes c s in let same : w ≡ text (keyword_of c) = cc in h (keyword_of c) same
+refuse (Cell v) ws h = h (v ∷ []) refl
+refuse (Flip a b) ws h = h (a ∷ b ∷ []) refl
+refuse (Poke a b) ws h = h (a ∷ b ∷ []) refl
 
 -- a line whose arguments are refused says nothing
 pub says_refused : (bytes w : List ℕ) (rest : List (List ℕ)) (k : Keyword) → cut bytes ≡ w ∷ rest → w ≡ text k → Refused (shape k) rest → (c : Command) → Says bytes c → ⊥
@@ -72,10 +70,6 @@ says_refused bytes w rest k e f h c s =
 pub says_read : (bytes w : List ℕ) (rest : List (List ℕ)) (k : Keyword) (o : Option Command) → cut bytes ≡ w ∷ rest → w ≡ text k → MatchOption o (Refused (shape k) rest) (λ c. (keyword_of c ≡ k) × WriteAll (arguments c) rest) → MatchOption o ((c : Command) → Says bytes c → ⊥) (λ c. Says bytes c)
 says_read bytes w rest k None e f h = says_refused bytes w rest k e f h
 says_read bytes w rest k (Some c) e f h = says_from bytes w rest k c e f h.0 h.1
-
--- a text has a first word
-pub no_words : (bytes : List ℕ) (ws : List (List ℕ)) → ws ≡ cut bytes → ws ≡ [] → ⊥
-no_words bytes ws e f = subst SomeWord (sym e ∙ f) (cut_some bytes)
 
 -- an argument without its limit: 0 for the end, and else one more than the number
 abbrev value_of : Argument → ℕ
@@ -100,9 +94,9 @@ write_same (a ∷ more) [] (w ∷ ws) g h = absurd h
 write_same (a ∷ more) (b ∷ bs) [] g h = absurd g
 write_same (a ∷ more) (b ∷ bs) (w ∷ ws) g h = let x = writes_same a b w g.0 h.0 in let y = write_same more bs ws g.1 h.1 in cc
 
-abbrev next_from : ℕ → NextWord
-next_from zero = End
-next_from (suc t) = Terminal t
+abbrev next_from : ℕ → Option ℕ
+next_from zero = None
+next_from (suc t) = Some t
 
 -- the number at a place
 abbrev at : List ℕ → ℕ → ℕ
@@ -130,8 +124,8 @@ command_is (Brackets v) = refl
 command_is Neutral = refl
 command_is (Restrict v) = refl
 command_is (Start v) = refl
-command_is (Choice v (Terminal t)) = refl
-command_is (Choice v End) = refl
+command_is (Choice v (Some t)) = refl
+command_is (Choice v None) = refl
 command_is (Level v) = refl
 command_is (Memory a b v) = refl
 command_is (Bound v) = refl

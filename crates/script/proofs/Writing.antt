@@ -1,14 +1,14 @@
 -- Each command within its limits has a line.
-use Rattle.std.proofs.Common.{◌≡◌, ℕ, ◌*◌, ◌<◌, ◌≤◌, Bool, true, ◌&&◌, leb, List, [], ◌∷◌, map, length, get_or, decimal, sym, refl, arith, length-append, rules, leb-true}
+use Rattle.std.proofs.Common.{◌≡◌, ℕ, ◌+◌, ◌*◌, ◌<◌, ◌≤◌, Bool, true, ◌&&◌, leb, List, [], ◌∷◌, map, length, get_or, decimal, Some, None, sym, refl, arith, length-append, rules, leb-true}
+use Rattle.std.proofs.lemmas.Bool.{and_parts}
 use Rattle.std.proofs.lemmas.Fmt.{decimal_nonempty, digits_decimal, digits_value-decimal, length-decimal-le}
 use Rattle.std.proofs.lemmas.Str.Parse.{IsNumeralModel, numerals_by_fold, tells_by_index}
-use Rattle.script.specs.Text.{Digit, decimal_after, Numeral, followed}
-use Rattle.script.specs.Says.{Argument, number, end, keyword_of, arguments, WriteAll}
+use Rattle.script.specs.Text.{Digit, decimal_after, Numeral, spaced}
+use Rattle.script.specs.Says.{Argument, number, end, text, keyword_of, arguments, WriteAll}
 use Rattle.script.specs.Laws.{Within, word_of, EveryCommand}
-use Rattle.script.specs.declared.NextWord.TheVariants.{Terminal, End}
 use Rattle.script.specs.declared.Command.{Command}
 use Rattle.script.specs.declared.Command.TheVariants.{Brackets, Neutral, Restrict, Start, Choice, Level, Memory, Bound, Count, Check, Table, Cell, Flip, Poke}
-use Rattle.script.proofs.Keywords.{both, text_length, text_blank}
+use Rattle.script.proofs.Keywords.{text_length, text_blank}
 
 -- each limit is a number of 64 bits
 abbrev limited : List Argument → Bool
@@ -25,8 +25,8 @@ arguments_small (Brackets v) = refl
 arguments_small Neutral = refl
 arguments_small (Restrict v) = refl
 arguments_small (Start v) = refl
-arguments_small (Choice v (Terminal t)) = refl
-arguments_small (Choice v End) = refl
+arguments_small (Choice v (Some t)) = refl
+arguments_small (Choice v None) = refl
 arguments_small (Level v) = refl
 arguments_small (Memory a b v) = refl
 arguments_small (Bound v) = refl
@@ -43,26 +43,31 @@ own = numerals_by_fold _ tells_by_index decimal_after (search rules)
 decimal_numeral : (v : ℕ) → v ≤ 18446744073709551615 → Numeral (decimal v) v
 decimal_numeral v h = record { some = decimal_nonempty v (omega arith); digits = digits_decimal own v (omega arith); value = sym (digits_value-decimal own v (omega arith)) }
 
+-- a word of an argument has at most 20 bytes, and so on for the others
+word_length : (a : Argument) (more : List Argument) → limited (a ∷ more) ≡ true → Within (a ∷ more) → (length (word_of a) ≤ 20) × (limited more ≡ true) × Within more
+word_length (number limit v) more l h =
+    let p = and_parts (leb limit 18446744073709551615) (limited more) l in
+    let q = leb-true limit 18446744073709551615 p.0 in
+    (length-decimal-le 20 v (omega arith) (omega arith) (omega arith), p.1, h.1)
+word_length end more l h = (omega arith, l, h)
+
 write_words : (more : List Argument) → limited more ≡ true → Within more → WriteAll more (map word_of more)
 write_words [] l h = tt
-write_words (number limit v ∷ more) l h = let p = both (leb limit 18446744073709551615) (limited more) l in let q = leb-true limit 18446744073709551615 p.0 in ((decimal_numeral v (omega arith), h.0), write_words more p.1 h.1)
+write_words (number limit v ∷ more) l h = let p = and_parts (leb limit 18446744073709551615) (limited more) l in let q = leb-true limit 18446744073709551615 p.0 in ((decimal_numeral v (omega arith), h.0), write_words more p.1 h.1)
 write_words (end ∷ more) l h = (refl, write_words more l h)
 
-followed_length : (more : List Argument) → limited more ≡ true → Within more → length (followed (map word_of more)) ≤ 21 * length more
-followed_length [] l h = omega arith
-followed_length (number limit v ∷ more) l h =
-    let p = both (leb limit 18446744073709551615) (limited more) l in
-    let q = leb-true limit 18446744073709551615 p.0 in
-    let d = length-decimal-le 20 v (omega arith) (omega arith) (omega arith) in
-    let r = followed_length more p.1 h.1 in
+spaced_length : (w : List ℕ) (more : List Argument) → limited more ≡ true → Within more → length (spaced (w ∷ map word_of more)) ≤ length w + 21 * length more
+spaced_length w [] l h = omega arith
+spaced_length w (a ∷ more) l h =
+    let p = word_length a more l h in
+    let r = spaced_length (word_of a) more p.1 p.2 in
     simp length-append (omega arith)
-followed_length (end ∷ more) l h = let r = followed_length more l h in omega arith
 
 -- each command within its limits is read from its line
 pub every_command : EveryCommand
 every_command c h =
-    let p = both (limited (arguments c)) _ (arguments_small c) in
+    let p = and_parts (limited (arguments c)) _ (arguments_small c) in
     let n = leb-true (length (arguments c)) 3 p.1 in
     let t = text_length (keyword_of c) in
-    let f = followed_length (arguments c) p.0 h in
-    (text_blank (keyword_of c) (followed (map word_of (arguments c))), simp length-append (omega arith), record { words = map word_of (arguments c); joined = refl; written = write_words (arguments c) p.0 h })
+    let f = spaced_length (text (keyword_of c)) (arguments c) p.0 h in
+    (text_blank (keyword_of c) (map word_of (arguments c)), omega arith, record { words = map word_of (arguments c); joined = refl; written = write_words (arguments c) p.0 h })

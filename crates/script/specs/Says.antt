@@ -1,10 +1,10 @@
 -- Which command a line says, and how a line is read.
-use Rattle.std.specs.Prelude.{◌≡◌, ℕ, ◌≤◌, List, [], ◌∷◌, length, codes}
+use Rattle.std.specs.Prelude.{◌≡◌, ◌≢◌, ℕ, ◌≤◌, List, [], ◌∷◌, length, codes, Some, None, Option, Result, MatchResult}
+use Rattle.std.specs.List.{AllZip}
 use Rattle.script.specs.Text.{spaced, Numeral}
 use Rattle.script.specs.declared.keyword.Keyword.{Keyword}
 use Rattle.script.specs.declared.keyword.Keyword.TheVariants as key
-use Rattle.script.specs.declared.NextWord.{NextWord}
-use Rattle.script.specs.declared.NextWord.TheVariants.{Terminal, End}
+use Rattle.script.specs.declared.keyword.UnknownKeyword.{UnknownKeyword}
 use Rattle.script.specs.declared.Command.{Command}
 use Rattle.script.specs.declared.Command.TheVariants.{Brackets, Neutral, Restrict, Start, Choice, Level, Memory, Bound, Count, Check, Table, Cell, Flip, Poke}
 use Rattle.script.specs.declared.Line.{Line}
@@ -26,6 +26,10 @@ text key.Table = codes "table"
 text key.Cell = codes "cell"
 text key.Flip = codes "flip"
 text key.Poke = codes "poke"
+
+-- the result is the keyword that a word is, or an error if the word is none
+abbrev pub Names : List ℕ → Result Keyword UnknownKeyword → Type 0
+Names word r = MatchResult r (λ k. word ≡ text k) (λ e. (k : Keyword) → word ≢ text k)
 
 -- the keyword of a command
 abbrev pub keyword_of : Command → Keyword
@@ -73,10 +77,10 @@ any v = number max_u64 v
 abbrev pub size : ℕ → Argument
 size v = number max_size v
 
--- the second argument of a choice
-abbrev pub next_argument : NextWord → Argument
-next_argument (Terminal t) = byte t
-next_argument End = end
+-- the second argument of a choice: the next terminal, none at the end of the input
+abbrev pub next_argument : Option ℕ → Argument
+next_argument (Some t) = byte t
+next_argument None = end
 
 -- the arguments of a command, in their order
 abbrev pub arguments : Command → List Argument
@@ -102,10 +106,7 @@ Writes end word = word ≡ codes "end"
 
 -- words write arguments, one for each
 abbrev pub WriteAll : List Argument → List (List ℕ) → Type 0
-WriteAll [] [] = Unit {0}
-WriteAll [] (w ∷ ws) = ⊥
-WriteAll (a ∷ more) [] = ⊥
-WriteAll (a ∷ more) (w ∷ ws) = Writes a w × WriteAll more ws
+WriteAll more words = AllZip Writes more words
 
 -- a line is the keyword of a command and a word for each of its arguments, with single spaces between
 pub record Says (bytes : List ℕ) (c : Command) : Type 0 where

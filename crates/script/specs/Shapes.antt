@@ -1,49 +1,47 @@
 -- The shapes of the arguments of commands, and when words have none of a shape.
-use Rattle.std.specs.Prelude.{◌≡◌, ℕ, List, [], ◌∷◌}
-use Rattle.script.specs.Says.{number, byte, max_byte, max_u64, max_size, next_argument, Writes, WriteAll}
+use Rattle.std.specs.Prelude.{◌≡◌, ℕ, List, [], ◌∷◌, length, map, Option, MatchOption}
+use Rattle.script.specs.Says.{Argument, number, byte, max_byte, max_u64, max_size, next_argument, keyword_of, arguments, Writes, WriteAll}
+use Rattle.script.specs.declared.Command.{Command}
 use Rattle.script.specs.declared.keyword.Keyword.{Keyword}
 use Rattle.script.specs.declared.keyword.Keyword.TheVariants as key
-use Rattle.script.specs.declared.NextWord.{NextWord}
 
--- none, one, two or three numbers up to a limit, what comes next, or a byte and what comes next
+-- none, some numbers up to a limit, or a byte and what comes next
 pub data Shape : Type 0 where
   none : Shape
-  one : ℕ → Shape
-  two : ℕ → Shape
-  three : ℕ → Shape
-  next : Shape
+  numbers : ℕ → ℕ → Shape
   choice : Shape
 
 -- the shape of a keyword's arguments
 abbrev pub shape : Keyword → Shape
-shape key.Brackets = one max_byte
+shape key.Brackets = numbers 1 max_byte
 shape key.Neutral = none
-shape key.Restrict = one max_u64
-shape key.Start = one max_byte
+shape key.Restrict = numbers 1 max_u64
+shape key.Start = numbers 1 max_byte
 shape key.Choice = choice
-shape key.Level = one max_byte
-shape key.Memory = three max_size
-shape key.Bound = one max_u64
+shape key.Level = numbers 1 max_byte
+shape key.Memory = numbers 3 max_size
+shape key.Bound = numbers 1 max_u64
 shape key.Count = none
 shape key.Check = none
 shape key.Table = none
-shape key.Cell = one max_u64
-shape key.Flip = two max_u64
-shape key.Poke = two max_u64
-
--- the first of the words writes the number v up to a limit, and the others are still unread
-abbrev pub FirstNumber : ℕ → ℕ → List (List ℕ) → List (List ℕ) → Type 0
-FirstNumber limit v ws rest = (w : List ℕ) × (ws ≡ w ∷ rest) × Writes (number limit v) w
-
--- the first of the words is no number up to a limit
-abbrev pub NoNumber : ℕ → List (List ℕ) → Type 0
-NoNumber limit ws = (v : ℕ) (rest : List (List ℕ)) → FirstNumber limit v ws rest → ⊥
+shape key.Cell = numbers 1 max_u64
+shape key.Flip = numbers 2 max_u64
+shape key.Poke = numbers 2 max_u64
 
 -- no arguments of a shape are written by the words
 abbrev pub Refused : Shape → List (List ℕ) → Type 0
 Refused none ws = WriteAll [] ws → ⊥
-Refused (one l) ws = (a : ℕ) → WriteAll (number l a ∷ []) ws → ⊥
-Refused (two l) ws = (a b : ℕ) → WriteAll (number l a ∷ number l b ∷ []) ws → ⊥
-Refused (three l) ws = (a b c : ℕ) → WriteAll (number l a ∷ number l b ∷ number l c ∷ []) ws → ⊥
-Refused next ws = (x : NextWord) → WriteAll (next_argument x ∷ []) ws → ⊥
-Refused choice ws = (a : ℕ) (x : NextWord) → WriteAll (byte a ∷ next_argument x ∷ []) ws → ⊥
+Refused (numbers n limit) ws = (vs : List ℕ) → length vs ≡ n → WriteAll (map (number limit) vs) ws → ⊥
+Refused choice ws = (a : ℕ) (x : Option ℕ) → WriteAll (byte a ∷ next_argument x ∷ []) ws → ⊥
+
+-- the result stands for an argument that a word writes, or is none if it writes no such argument
+abbrev pub ReadWord : {X : Type 0} → (X → Argument) → List ℕ → Option X → Type 0
+ReadWord {X} argument word r = MatchOption r ((x : X) → Writes (argument x) word → ⊥) (λ x. Writes (argument x) word)
+
+-- the result stands for arguments of a shape that the words write, or is none if they write none
+abbrev pub ReadWords : {X : Type 0} → Shape → (X → List Argument) → List (List ℕ) → Option X → Type 0
+ReadWords s more ws r = MatchOption r (Refused s ws) (λ x. WriteAll (more x) ws)
+
+-- the result is the command of a keyword whose arguments are written by the words, or none if they write no arguments of its shape
+abbrev pub ReadAs : Keyword → List (List ℕ) → Option Command → Type 0
+ReadAs k ws r = MatchOption r (Refused (shape k) ws) (λ c. (keyword_of c ≡ k) × WriteAll (arguments c) ws)

@@ -1,15 +1,10 @@
 -- Words between single spaces, and decimal numerals.
-use Rattle.std.specs.Prelude.{◌≡◌, ℕ, ◌+◌, ◌-◌, ◌*◌, ◌<◌, ◌≤◌, List, [], ◌∷◌, ◌++◌, length, slice_index}
-
--- words that follow another, each after a space
-abbrev pub followed : List (List ℕ) → List ℕ
-followed [] = []
-followed (w ∷ ws) = 32 ∷ (w ++ followed ws)
+use Rattle.std.specs.Prelude.{◌≡◌, ℕ, ◌+◌, ◌-◌, ◌*◌, ◌<◌, ◌≤◌, List, [], ◌∷◌, length, slice_index}
+use Rattle.std.specs.List.{join_with_byte}
 
 -- words joined by single spaces
 abbrev pub spaced : List (List ℕ) → List ℕ
-spaced [] = []
-spaced (w ∷ ws) = w ++ followed ws
+spaced words = join_with_byte 32 words
 
 -- a byte is a decimal digit
 abbrev pub Digit : ℕ → Type 0

@@ -1,7 +1,6 @@
 //! The first words of commands.
 
-ghost use Rattle.script.specs.Says.{text};
-ghost use Rattle.std.specs.Prelude.{◌≡◌, MatchOption, ◌≢◌};
+ghost use Rattle.script.specs.Says.{Names};
 
 /// The first word of a command.
 #[derive(Clone, Copy, Drop)]
@@ -22,35 +21,32 @@ pub enum Keyword {
     Poke,
 }
 
-/// The keyword that a text is.
-fn named(word: &str) -> Option<Keyword>
-    ensures { MatchOption result ((k : Keyword) → word.now ≢ text k) (λ k. word.now ≡ text k) }
-{
-    match word {
-        "brackets" => Some(Keyword::Brackets),
-        "neutral" => Some(Keyword::Neutral),
-        "restrict" => Some(Keyword::Restrict),
-        "start" => Some(Keyword::Start),
-        "choice" => Some(Keyword::Choice),
-        "level" => Some(Keyword::Level),
-        "memory" => Some(Keyword::Memory),
-        "bound" => Some(Keyword::Bound),
-        "count" => Some(Keyword::Count),
-        "check" => Some(Keyword::Check),
-        "table" => Some(Keyword::Table),
-        "cell" => Some(Keyword::Cell),
-        "flip" => Some(Keyword::Flip),
-        "poke" => Some(Keyword::Poke),
-        _ => None,
-    }
-}
+/// A word that is no keyword.
+#[derive(Clone, Copy, Drop)]
+pub struct UnknownKeyword;
 
-/// The keyword that a word is.
-pub fn find_keyword(word: &[u8]) -> Option<Keyword>
-    ensures { MatchOption result ((k : Keyword) → word.now ≢ text k) (λ k. word.now ≡ text k) }
-{
-    match std::str::from_utf8(word) {
-        Ok(name) => named(name),
-        Err(_) => None,
+impl<'a> TryFrom<&'a [u8]> for Keyword {
+    type Error = UnknownKeyword;
+
+    ghost try_from_gives = { λ word r. Names word.now r };
+
+    fn try_from(word: &'a [u8]) -> Result<Keyword, UnknownKeyword> {
+        match word {
+            b"brackets" => Ok(Keyword::Brackets),
+            b"neutral" => Ok(Keyword::Neutral),
+            b"restrict" => Ok(Keyword::Restrict),
+            b"start" => Ok(Keyword::Start),
+            b"choice" => Ok(Keyword::Choice),
+            b"level" => Ok(Keyword::Level),
+            b"memory" => Ok(Keyword::Memory),
+            b"bound" => Ok(Keyword::Bound),
+            b"count" => Ok(Keyword::Count),
+            b"check" => Ok(Keyword::Check),
+            b"table" => Ok(Keyword::Table),
+            b"cell" => Ok(Keyword::Cell),
+            b"flip" => Ok(Keyword::Flip),
+            b"poke" => Ok(Keyword::Poke),
+            _ => Err(UnknownKeyword),
+        }
     }
 }

@@ -27,26 +27,17 @@
 #![tactic(auto)]
 
 ghost use Rattle.script.specs.Laws.{EveryCommand, OneCommand, OneReading};
-ghost use Rattle.script.specs.LineEnd.{EndsIn, LineEndOff};
+ghost use Rattle.script.specs.LineEnd.{LineEndOff};
 ghost use Rattle.script.specs.Says.{IsBlank, Reads, Says};
-ghost use Rattle.std.specs.Prelude.{◌≡◌, [], ◌∷◌, ◌++◌, Decides, MatchOption};
+ghost use Rattle.std.specs.Prelude.{Decides, MatchOption};
 
 mod arguments;
 mod keyword;
 mod number;
 mod words;
 
-use keyword::find_keyword;
+use keyword::Keyword;
 use words::Words;
-
-/// What stands after a nonterminal in a question for its choice.
-#[derive(Clone, Copy, PartialEq, Eq, Drop)]
-pub enum NextWord {
-    /// A terminal.
-    Terminal(u8),
-    /// The end of the input.
-    End,
-}
 
 /// A command of a console script.
 #[derive(Clone, Copy, PartialEq, Eq, Drop)]
@@ -65,10 +56,10 @@ pub enum Command {
     Start {
         start: u8,
     },
-    /// Ask for the slot chosen for a nonterminal and what comes next.
+    /// Ask for the slot chosen for a nonterminal and the next terminal, none at the end of the input.
     Choice {
         nonterminal: u8,
-        next: NextWord,
+        next: Option<u8>,
     },
     /// Ask for the level of a nonterminal.
     Level {
@@ -107,6 +98,7 @@ pub enum Command {
 }
 
 /// What a line of a script is.
+// The console answers the three in three ways; in a `Result` of an `Option` a blank line would be a `None` in an `Ok`.
 #[derive(Clone, Copy, PartialEq, Eq, Drop)]
 pub enum Line {
     /// It is empty or a comment.
@@ -124,10 +116,7 @@ const LONGEST: usize = 1_000_000;
 fn is_blank(line: &[u8]) -> bool
     ensures { Decides result (IsBlank line.now) }
 {
-    match line {
-        [] => true,
-        [first, ..] => *first == b'#',
-    }
+    matches!(line, [] | [b'#', ..])
 }
 
 /// The command that a text says.
@@ -136,7 +125,7 @@ fn read_command(text: &[u8]) -> Option<Command>
 {
     let mut words = Words::of(text);
     let word = words.next()?;
-    let keyword = find_keyword(word)?;
+    let keyword = Keyword::try_from(word).ok()?;
     arguments::read(keyword, words)
 }
 
@@ -156,26 +145,14 @@ pub fn read_line(line: &[u8]) -> Line
     }
 }
 
-/// The text before a byte at the end of it; none if it does not end in that byte.
-fn before_last(text: &[u8], byte: u8) -> Option<&[u8]>
-    ensures { MatchOption result (EndsIn byte text.now → ⊥) (λ front. text.now ≡ front.now ++ (byte ∷ [])) }
-{
-    let (last, front) = text.split_last()?;
-    if *last == byte { Some(front) } else { None }
-}
-
 /// A line without its line end: one LF, or one CR LF, is taken off at the end. Any other CR stays.
-#[tactic(auto, using(crate::proofs::LineEnds::before_cr_lf))]
 pub fn without_line_end(line: &[u8]) -> &[u8]
     ensures { LineEndOff line.now result.now }
 {
-    match before_last(line, b'\n') {
-        None => line,
-        Some(text) => match before_last(text, b'\r') {
-            Some(front) => front,
-            None => text,
-        },
-    }
+    let Some(text) = line.strip_suffix(b"\n") else {
+        return line;
+    };
+    text.strip_suffix(b"\r").unwrap_or(text)
 }
 
 /// No line says two commands, and no line is read in two ways.
@@ -238,7 +215,7 @@ mod tests {
             b"choice 1 007",
             Command::Choice {
                 nonterminal: 1,
-                next: NextWord::Terminal(7),
+                next: Some(7),
             },
         );
         says(
@@ -246,7 +223,7 @@ mod tests {
             b"choice 1 end",
             Command::Choice {
                 nonterminal: 1,
-                next: NextWord::End,
+                next: None,
             },
         );
         says(&rt, b"level 0", Command::Level { nonterminal: 0 });

@@ -1,13 +1,12 @@
 -- The text of each answer. Assumes nothing.
-use Rattle.std.specs.Prelude.{ℕ, List, [], ◌∷◌, ◌++◌, vec_items, codes, decimal}
+use Rattle.std.specs.Prelude.{ℕ, List, ◌∷◌, ◌++◌, flat_map, vec_items, codes, decimal}
 use Rattle.fault.specs.Faults.{fault_text}
 use Rattle.session.specs.declared.answer.Answer.{Answer}
 use Rattle.session.specs.declared.answer.Answer.TheVariants.{Done, Counted, Sound, Slot, NoSlot, Level, Table, Cell, NoSuchCell, Refused, Unreadable}
 
 -- each number after a space
 abbrev pub spaced : List ℕ → List ℕ
-spaced [] = []
-spaced (n ∷ ns) = 32 ∷ (decimal n ++ spaced ns)
+spaced = flat_map (λ n. 32 ∷ decimal n)
 
 -- the text of each answer
 abbrev pub answer_text : Answer → List ℕ

@@ -3,19 +3,11 @@ use Rattle.std.specs.Prelude.{◌≡◌, ℕ, ◌^◌, cond, ◌&&◌, List, len
 use Rattle.fault.specs.declared.Fault.{Fault}
 use Rattle.std.specs.declared.alloc.Global.{Global}
 use Rattle.theory.specs.Grammar.{Cfg}
-use Rattle.theory.specs.Sets.{Next, token, end}
-use Rattle.script.specs.declared.NextWord.{NextWord}
-use Rattle.script.specs.declared.NextWord.TheVariants.{Terminal, End}
 use Rattle.table.specs.Rows.{needed, Room}
 use Rattle.table.specs.Counts.{SoundTable}
 use Rattle.table.specs.Calls as calls
 use Rattle.session.specs.declared.answer.Answer.{Answer}
 use Rattle.session.specs.declared.answer.Answer.TheVariants.{Done, Counted, Sound, Slot, NoSlot, Table, Cell, NoSuchCell, Refused}
-
--- what the word after a nonterminal stands for
-abbrev pub word_next : NextWord → Next
-word_next (Terminal t) = token t
-word_next End = end
 
 -- the answer to a choice
 abbrev pub slot_answer : Option ℕ → Answer

@@ -10,7 +10,8 @@ use Rattle.restriction.specs.Restricted.{kept_slots, kept_choice, MaskSet}
 use Rattle.start_change.specs.Started.{with_start, start_answer}
 use Rattle.script.specs.declared.Command.{Command}
 use Rattle.script.specs.declared.Command.TheVariants as command
-use Rattle.session.specs.Asked.{word_next, slot_answer, CountReply, CheckReply, TableReply, cell_answer, written_answer, written, flipped_answer, flipped}
+use Rattle.grammar.specs.Interface.{next_of_lookahead}
+use Rattle.session.specs.Asked.{slot_answer, CountReply, CheckReply, TableReply, cell_answer, written_answer, written, flipped_answer, flipped}
 use Rattle.session.specs.declared.answer.Answer.{Answer}
 use Rattle.session.specs.declared.answer.Answer.TheVariants.{Done, Level, Refused}
 use Rattle.session.specs.declared.state.Session.{Session}
@@ -22,7 +23,7 @@ setting_answer (Err f) = Refused f
 
 -- the commands that ask a grammar or its table, or look at the cells: what they answer, and what they leave in the cells
 pub data Asks (G : Cfg) (chosen : ℕ → Next → Option ℕ) (level : ℕ → ℕ) (L : ℕ) (before after : List ℕ) : Command → Answer → Type 0 where
-  choice : (A : ℕ) (w : _) → after ≡ before → Asks G chosen level L before after (command.Choice A w) (slot_answer (chosen A (word_next w)))
+  choice : (A : ℕ) (next : Option ℕ) → after ≡ before → Asks G chosen level L before after (command.Choice A next) (slot_answer (chosen A (next_of_lookahead next)))
   level_of : (A : ℕ) → after ≡ before → Asks G chosen level L before after (command.Level A) (Level (level A))
   count : (a : Answer) → CountReply G L before after a → Asks G chosen level L before after command.Count a
   check : (a : Answer) → CheckReply G L before a → after ≡ before → Asks G chosen level L before after command.Check a
@@ -30,23 +31,6 @@ pub data Asks (G : Cfg) (chosen : ℕ → Next → Option ℕ) (level : ℕ → 
   cell : (i : ℕ) → after ≡ before → Asks G chosen level L before after (command.Cell i) (cell_answer before i)
   flip : (i b : ℕ) → after ≡ flipped before i b → Asks G chosen level L before after (command.Flip i b) (flipped_answer before i b)
   poke : (i v : ℕ) → after ≡ written before i v → Asks G chosen level L before after (command.Poke i v) (written_answer before i)
-
--- whether a command changes a setting
-abbrev pub IsSetting : Command → Type 0
-IsSetting (command.Brackets k) = Unit {0}
-IsSetting command.Neutral = Unit {0}
-IsSetting (command.Restrict m) = Unit {0}
-IsSetting (command.Start s) = Unit {0}
-IsSetting (command.Choice A w) = ⊥
-IsSetting (command.Level A) = ⊥
-IsSetting (command.Memory c s o) = Unit {0}
-IsSetting (command.Bound b) = Unit {0}
-IsSetting command.Count = ⊥
-IsSetting command.Check = ⊥
-IsSetting command.Table = ⊥
-IsSetting (command.Cell i) = ⊥
-IsSetting (command.Flip i b) = ⊥
-IsSetting (command.Poke i v) = ⊥
 
 -- whether a command asks for memory: to lend other cells, or to show the table
 abbrev pub Allocates : Command → Type 0

@@ -1,12 +1,15 @@
 //! What the console answers, and the text of it.
 
-ghost use Rattle.std.specs.Prelude.{◌≡◌, ◌++◌, IfOk, string_bytes, codes};
+ghost use Rattle.std.specs.Fmt.{WritesOnOk};
+ghost use Rattle.std.specs.Prelude.{◌≡◌, ◌++◌, Some, codes};
 ghost use Rattle.session.specs.Answers.{spaced, answer_text};
+ghost use Rattle.session.specs.Asked.{slot_answer};
+ghost use Rattle.session.specs.Runs.{setting_answer};
 
 use fault::Fault;
-use std::alloc::{AllocError, Global};
+use std::fmt;
 
-/// What the console answers to a line.
+/// What the console answers to a line. Its text, by `Display`, is the line that the console prints.
 #[derive(Drop)]
 pub enum Answer {
     /// A setting was taken.
@@ -33,35 +36,51 @@ pub enum Answer {
     Unreadable,
 }
 
-// The needed cells, each after a space.
-fn table_text(heap: Global, cells: &[u64]) -> Result<String, AllocError>
-    ensures { IfOk result (λ s. string_bytes s ≡ codes "table" ++ spaced cells.now) }
-{
-    let mut text = String::from_str(heap, "table")?;
-    for cell in cells {
-        let word = format!(in heap; " {cell}")?;
-        text.push_str(word.as_str())?;
+/// The answer to a choice.
+impl From<Option<u8>> for Answer {
+    ghost from_gives = { λ slot answer. answer ≡ slot_answer slot };
+
+    fn from(slot: Option<u8>) -> Answer {
+        slot.map_or(Answer::NoSlot, Answer::Slot)
     }
-    Ok(text)
 }
 
-impl Answer {
-    /// The line that the console prints.
-    pub fn text(&self, heap: Global) -> Result<String, AllocError>
-        ensures { IfOk result (λ s. string_bytes s ≡ answer_text self.now) }
-    {
+/// The answer to a setting.
+impl From<Result<(), Fault>> for Answer {
+    ghost from_gives = { λ settled answer. answer ≡ setting_answer settled };
+
+    fn from(settled: Result<(), Fault>) -> Answer {
+        settled.map_or_else(Answer::Refused, |()| Answer::Done)
+    }
+}
+
+// The needed cells, each after a space.
+fn write_table<W: fmt::Write>(cells: &[u64], f: &mut fmt::Formatter<W>) -> fmt::Result
+    ensures { WritesOnOk W.write_str_gives f.old result (codes "table" ++ spaced cells.now) f.new }
+{
+    write!(f, "table")?;
+    for cell in cells {
+        write!(f, " {cell}")?;
+    }
+    Ok(())
+}
+
+impl fmt::Display for Answer {
+    ghost output = { λ answer. Some (answer_text answer) };
+
+    fn fmt<W: fmt::Write>(&self, f: &mut fmt::Formatter<W>) -> fmt::Result {
         match self {
-            Answer::Done => String::from_str(heap, "ok"),
-            Answer::Counted => String::from_str(heap, "counted"),
-            Answer::Sound => String::from_str(heap, "sound"),
-            Answer::Slot(slot) => format!(in heap; "slot {slot}"),
-            Answer::NoSlot => String::from_str(heap, "none"),
-            Answer::Level(level) => format!(in heap; "level {level}"),
-            Answer::Table(cells) => table_text(heap, cells.as_slice()),
-            Answer::Cell(value) => format!(in heap; "cell {value}"),
-            Answer::NoSuchCell => String::from_str(heap, "no such cell"),
-            Answer::Refused(fault) => format!(in heap; "{fault}"),
-            Answer::Unreadable => String::from_str(heap, "unreadable"),
+            Answer::Done => write!(f, "ok"),
+            Answer::Counted => write!(f, "counted"),
+            Answer::Sound => write!(f, "sound"),
+            Answer::Slot(slot) => write!(f, "slot {slot}"),
+            Answer::NoSlot => write!(f, "none"),
+            Answer::Level(level) => write!(f, "level {level}"),
+            Answer::Table(cells) => write_table(cells.as_slice(), f),
+            Answer::Cell(value) => write!(f, "cell {value}"),
+            Answer::NoSuchCell => write!(f, "no such cell"),
+            Answer::Refused(fault) => write!(f, "{fault}"),
+            Answer::Unreadable => write!(f, "unreadable"),
         }
     }
 }

@@ -9,38 +9,36 @@ use crate::answer::Answer;
 pub(crate) fn cell(cells: &[u64], at: u64) -> Answer
     ensures { result ≡ cell_answer cells.now at }
 {
-    let at = at as usize;
-    if at < cells.len() {
-        Answer::Cell(cells[at])
-    } else {
-        Answer::NoSuchCell
-    }
+    cells
+        .get(at as usize)
+        .map_or(Answer::NoSuchCell, |value| Answer::Cell(*value))
 }
 
 /// Writes a cell.
-pub(crate) fn poke(cells: &mut [u64], at: u64, value: u64) -> Answer
-    ensures answer { result ≡ written_answer cells.old at }
-    ensures cells { cells.new ≡ written cells.old at value }
+// A `Vec` and no slice here and in `flip`: of a slice's `get_mut` a proof does not learn what was written.
+pub(crate) fn poke(cells: &mut Vec<u64>, at: u64, value: u64) -> Answer
+    ensures answer { result ≡ written_answer cells.old.items at }
+    ensures cells { cells.new.items ≡ written cells.old.items at value }
 {
-    let at = at as usize;
-    if at < cells.len() {
-        cells[at] = value;
-        Answer::Done
-    } else {
-        Answer::NoSuchCell
+    match cells.get_mut(at as usize) {
+        Some(cell) => {
+            *cell = value;
+            Answer::Done
+        }
+        None => Answer::NoSuchCell,
     }
 }
 
 /// Flips one bit of one cell.
-pub(crate) fn flip(cells: &mut [u64], at: u64, bit: u64) -> Answer
-    ensures answer { result ≡ flipped_answer cells.old at bit }
-    ensures cells { cells.new ≡ flipped cells.old at bit }
+pub(crate) fn flip(cells: &mut Vec<u64>, at: u64, bit: u64) -> Answer
+    ensures answer { result ≡ flipped_answer cells.old.items at bit }
+    ensures cells { cells.new.items ≡ flipped cells.old.items at bit }
 {
-    let at = at as usize;
-    if at < cells.len() && bit < 64 {
-        cells[at] ^= 1 << bit;
-        Answer::Done
-    } else {
-        Answer::NoSuchCell
+    match cells.get_mut(at as usize) {
+        Some(cell) if bit < 64 => {
+            *cell ^= 1 << bit;
+            Answer::Done
+        }
+        _ => Answer::NoSuchCell,
     }
 }

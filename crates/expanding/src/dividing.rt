@@ -48,8 +48,8 @@ fn divide<O: LengthPolicy>(policy: &O, first: &[u64], rest: &[u64], m: usize, ra
     unreachable!()
 }
 
-// The fields are those of `Ranking` in crate numbering: methods of a struct stand in the crate of that struct, so one struct would serve one of the two.
 /// What the sentence with a number is found from: the counts of a grammar, and which length of a part comes first.
+// The fields are those of `Ranking` in crate numbering: methods of a struct stand in the crate of that struct, so one struct would serve one of the two.
 #[derive(Drop)]
 pub(crate) struct Unranking<'a, G: Grammar, O> {
     pub(crate) counts: &'a Counts<'a, G>,

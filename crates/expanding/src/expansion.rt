@@ -13,6 +13,7 @@ use stack::Stack;
 use walk::LengthPolicy;
 
 /// The sentence of a length with a number, token by token: what is still to be written stands in the frame at work and in those that are suspended.
+// Where it stands (`Stands`) is a clause of its methods: it is false between the push and the new frame of `enter`.
 #[derive(Drop)]
 pub(crate) struct Expansion<'a, G: Grammar, O> {
     unranking: Unranking<'a, G, O>,

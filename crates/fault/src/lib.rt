@@ -99,7 +99,7 @@ impl Memory {
 
 impl Fault {
     /// The number of the fault, 1 to 17.
-    // A match, here and in `stage` and `place`: a case that holds a place has no discriminant to cast.
+    // A match: a case that holds a place has no discriminant to cast.
     pub fn number(self) -> u8
         ensures { result ≡ fault_number self }
     {
@@ -172,7 +172,7 @@ impl Fault {
     }
 }
 
-/// Whether two faults are one: the derived `==`, which is so exactly where number and place agree.
+/// Whether two faults are one, by the derived `==`: so exactly where number and place agree.
 pub fn same(x: &Fault, y: &Fault) -> bool
     ensures computes { result ≡ same_fault x.now y.now }
     ensures decides { Decides result (x.now ≡ y.now) }

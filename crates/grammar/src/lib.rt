@@ -69,7 +69,7 @@ pub trait Grammar {
 
     /// The byte of the symbol at a position of a slot's right-hand side: t for terminal t, 128 + A for nonterminal A.
     /// None past the end, if the slot is empty and if there is no such slot.
-    // A byte and no `Symbol`: the interface of grammars answers bytes; `symbol_at` answers the symbol.
+    // A byte, not a `Symbol`: the interface of grammars answers bytes; `symbol_at` answers the symbol.
     fn symbol(&self, slot: u8, position: u8) -> Option<u8>
         ensures { result ≡ byte_at (right_of ((meaning self.now).slot slot)) position };
 

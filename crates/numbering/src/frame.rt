@@ -13,7 +13,7 @@ pub(crate) struct Part {
 /// A right-hand side that is being parsed: a slot, a position in its right-hand side, and the parts of the symbols before that position.
 ///
 /// The stack that a caller lends is a slice of frames.
-// An array for the most symbols that a right-hand side has, with a position beside it: a flight kit has no heap.
+// An array for the most symbols that a right-hand side has, with a position beside it: the library uses no heap.
 #[derive(Clone, Copy, PartialEq, Eq, Debug)]
 pub struct Frame {
     pub(crate) slot: u8,

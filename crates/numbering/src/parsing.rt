@@ -28,7 +28,8 @@ impl From<Stopped> for Fault {
 }
 
 /// A parse of tokens: the frame at work, those that are suspended, and how many tokens are gone.
-// Where it stands is asked of its methods (`Stands`): answers are read from that fact, which a ghost field would keep truncated.
+// Where it stands (`Stands`) is a clause of its methods: a ghost field would keep that it is so, and not the rank that the answer is read from.
+// `gone`, not a shorter slice of tokens: where a parse stops, the fault names it.
 #[derive(Drop)]
 pub(crate) struct Parse<'a, G: Grammar, O> {
     ranking: Ranking<'a, G, O>,

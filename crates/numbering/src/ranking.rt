@@ -12,8 +12,8 @@ use grammar::{Grammar, Symbol};
 use table::{Counts, Row};
 use walk::LengthPolicy;
 
-// The fields are those of `Unranking` in crate expanding: methods of a struct stand in the crate of that struct, so one struct would serve one of the two.
 /// What ranks are computed from: the counts of a grammar, and which length of a part comes first.
+// The fields are those of `Unranking` in crate expanding: methods of a struct stand in the crate of that struct, so one struct would serve one of the two.
 #[derive(Drop)]
 pub(crate) struct Ranking<'a, G: Grammar, O> {
     pub(crate) counts: &'a Counts<'a, G>,
@@ -43,6 +43,7 @@ fn join<O: LengthPolicy>(policy: &O, firsts: &[u64], rests: &[u64], part: Part, 
     unreachable!()
 }
 
+// The clauses on a frame, a slot or a length speak of an argument of the one call, not of the ranking: they stay clauses.
 impl<G: Grammar, O: LengthPolicy> Ranking<'_, G, O> {
     // What the parts of the symbols from `position` on add up to, where those behind it add up to `rest`.
     fn add_part(&self, frame: &Frame, position: u8, rest: Part) -> Part

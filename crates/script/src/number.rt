@@ -16,6 +16,7 @@ fn push_digit(value: u64, byte: u8) -> Option<u64>
 }
 
 /// The value of a word of decimal digits, below 2 to the 64.
+// Not the library's `parse`, which takes a sign, and text.
 fn number(word: &[u8]) -> Option<u64>
     ensures { ReadWord any word.now result }
 {

@@ -5,6 +5,7 @@ ghost use Rattle.std.specs.Iterator.{YieldsFirstRef, item_count};
 ghost use Rattle.script.specs.Cut.{cut, unread};
 
 /// The words of a text that are not read yet; `None` once all are read.
+// Not the library's `split`: its type names a closure, and each function that takes words would have a parameter for it.
 #[derive(Drop)]
 pub struct Words<'a> {
     rest: Option<&'a [u8]>,

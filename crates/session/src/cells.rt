@@ -15,7 +15,7 @@ pub(crate) fn cell(cells: &[u64], at: u64) -> Answer
 }
 
 /// Writes a cell.
-// A `Vec` and no slice here and in `flip`: of a slice's `get_mut` a proof does not learn what was written.
+// A `Vec`, not a slice, here and in `flip`: of a slice's `get_mut` a proof does not learn what was written.
 pub(crate) fn poke(cells: &mut Vec<u64>, at: u64, value: u64) -> Answer
     ensures answer { result ≡ written_answer cells.old.items at }
     ensures cells { cells.new.items ≡ written cells.old.items at value }

@@ -1,6 +1,6 @@
 //! The console's work: what each line of a script is answered by, and what it changes.
 //!
-//! `Session::new` is a session at first, `Session::answer` answers a line, `Session::run` a command. An `Answer` displays as the line that is printed.
+//! `Session::new` makes a session, `Session::answer` answers a line, `Session::run` a command. An `Answer` displays as the line that is printed.
 
 #![tactic(auto)]
 

@@ -6,7 +6,7 @@ ghost use Rattle.std.specs.Prelude.{◌≡◌, ◌≤◌, length};
 
 /// A stack: the first `depth` entries, the last of them on top.
 // No model: it would hide the entries past the depth, and that the lent slice is still this one.
-// Entries with a depth beside them, since a flight kit has no heap.
+// Entries with a depth beside them, since the library uses no heap.
 #[derive(Drop)]
 pub struct Stack<'a, T> {
     entries: &'a mut [T],

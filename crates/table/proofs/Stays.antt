@@ -8,7 +8,7 @@ use Rattle.table.specs.Equations.{equation}
 use Rattle.table.specs.Counts.{count_of}
 use Rattle.table.specs.Layouts.{AtRow}
 use Rattle.table.specs.Filling.{Correct, CorrectBelow, Keeps, Over, UnlessOver, CornersCorrect, PrefixCorrectOf, Done}
-use Rattle.table.specs.Making.{grammar_of, bound_of, Right, CornersRight, PrefixRight, DoneRight, AllDoneRight, Stays, Reads}
+use Rattle.table.specs.FillingOf.{grammar_of, bound_of, Right, CornersRight, PrefixRight, DoneRight, AllDoneRight, Stays, Shows}
 use Rattle.table.specs.declared.layout.Layout.{Layout}
 use Rattle.table.specs.declared.cells.Cells.{Cells}
 use Rattle.table.specs.declared.filling.Filling.{Filling}
@@ -68,12 +68,12 @@ module _ {T : Type 0} {members : Ghosts T} where
   }
 
   -- what is said of the cells that are read is said of those that are filled, and the other way round
-  pub read_back : {x : Filling T members} {y : Cells T members} → Reads x y → (P : T → Layout → List ℕ → Type 0) → P y.grammar.now y.layout.now y.cells.now → P x.grammar.now x.layout.now x.cells.now
+  pub read_back : {x : Filling T members} {y : Cells T members} → Shows x y → (P : T → Layout → List ℕ → Type 0) → P y.grammar.now y.layout.now y.cells.now → P x.grammar.now x.layout.now x.cells.now
   read_back {x} {y} p P h =
       subst (λ (g : T). P g x.layout.now x.cells.now) p.grammar
       (subst (λ (l : Layout). P y.grammar.now l x.cells.now) p.layout (subst (λ (t : List ℕ). P y.grammar.now y.layout.now t) p.cells h))
 
-  pub read_on : {x : Filling T members} {y : Cells T members} → Reads x y → (P : T → Layout → List ℕ → Type 0) → P x.grammar.now x.layout.now x.cells.now → P y.grammar.now y.layout.now y.cells.now
+  pub read_on : {x : Filling T members} {y : Cells T members} → Shows x y → (P : T → Layout → List ℕ → Type 0) → P x.grammar.now x.layout.now x.cells.now → P y.grammar.now y.layout.now y.cells.now
   read_on {x} {y} p P h =
       subst (λ (g : T). P g y.layout.now y.cells.now) (sym p.grammar)
       (subst (λ (l : Layout). P x.grammar.now l y.cells.now) (sym p.layout) (subst (λ (t : List ℕ). P x.grammar.now x.layout.now t) (sym p.cells) h))

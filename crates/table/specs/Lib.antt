@@ -3,9 +3,9 @@ pub mod Equations
 pub mod Terms
 pub mod Counts
 pub mod Layouts
-pub mod Seen
+pub mod CellsOf
 pub mod Filling
-pub mod Making
+pub mod FillingOf
 pub mod Reading
 pub mod Calls
 pub mod CountsOf

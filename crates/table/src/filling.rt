@@ -38,7 +38,8 @@ pub(crate) struct Filling<'a, G: Grammar> {
     ghost ready: { ReadyAt (G.meaning grammar.now) layout.now cells.now length },
 }
 
-// Each method that writes is refused where a count passes the limit.
+// Each method that writes answers `TooLarge` where a count passes the limit.
+// The clauses on a row, a slot or a nonterminal speak of an argument of the one call: they stay clauses.
 impl<G: Grammar> Filling<'_, G> {
     ghost use Rattle.std.specs.Prelude.{◌≡◌, ℕ, ◌+◌, ◌<◌, ◌≤◌, length};
     ghost use Rattle.theory.specs.Count.{right_of};
@@ -47,11 +48,11 @@ impl<G: Grammar> Filling<'_, G> {
     ghost use Rattle.table.specs.Counts.{count_of};
     ghost use Rattle.table.specs.Layouts.{AtRow};
     ghost use Rattle.table.specs.Filling.{Within, NeedsNoRest, CorrectBelow};
-    ghost use Rattle.table.specs.Making.{grammar_of, bound_of, Right, FirstsRight, CornersRight, PrefixRight, DoneRight, AllDoneRight, UnlessTooLarge, Stays, Reads};
+    ghost use Rattle.table.specs.FillingOf.{grammar_of, bound_of, Right, FirstsRight, CornersRight, PrefixRight, DoneRight, AllDoneRight, UnlessTooLarge, Stays, Shows};
 
     // The cells, to be read.
-    fn seen(&self) -> Cells<'_, G>
-        ensures { Reads self.now result }
+    fn view(&self) -> Cells<'_, G>
+        ensures { Shows self.now result }
     {
         Cells {
             grammar: self.grammar,
@@ -65,7 +66,7 @@ impl<G: Grammar> Filling<'_, G> {
         requires { AtRow (grammar_of self.now) row at }
         ensures { Within (equation (grammar_of self.now) (bound_of self.now) self.now.cells.now row self.now.length) result }
     {
-        self.seen()
+        self.view()
             .sum_of(terms_of(self.grammar, row, at), self.length)
     }
 
@@ -109,7 +110,7 @@ impl<G: Grammar> Filling<'_, G> {
         ensures done { UnlessTooLarge result self.old (PrefixRight self.new a s) }
     {
         if self.grammar.left(s) == Some(a) && self.grammar.length(s) > 0 {
-            let end = self.seen().prefix_end(s);
+            let end = self.view().prefix_end(s);
             return self.fill_suffixes(s, 0, end + 1);
         }
         Ok(())
@@ -154,7 +155,7 @@ impl<G: Grammar> Filling<'_, G> {
         if n == 0 {
             return Ok(());
         }
-        let end = self.seen().prefix_end(s);
+        let end = self.view().prefix_end(s);
         self.fill_suffixes(s, end + 1, n)
     }
 
@@ -180,7 +181,7 @@ impl<G: Grammar> Filling<'_, G> {
     }
 }
 
-/// Writes all cells for the length `m`; refused where a count passes the limit.
+/// Writes all cells for the length `m`; `TooLarge` where a count passes the limit.
 ///
 /// A function of its own, since a proof knows nothing of the guard's cells once a struct in its loop has borrowed them.
 pub(crate) fn fill_length<G: Grammar>(

@@ -17,6 +17,7 @@ fn zero(cells: &mut [u64], n: usize)
 }
 
 /// Holds the cells of a table while it is counted. Dropped before the count is accepted, it writes 0 into the needed cells.
+// A lent slice, how many of its cells are needed, and a flag: what its end reads, and no type of state, since every way out ends it.
 pub(crate) struct Counting<'a> {
     pub(crate) cells: &'a mut [u64],
     pub(crate) needed: usize,
@@ -51,7 +52,7 @@ pub(crate) fn count_cells<G: Grammar>(
 {
     let mut counting = Counting {
         cells,
-        needed: layout.rows * (layout.bound + 1),
+        needed: layout.needed(),
         accepted: false,
     };
     for m in 0..=layout.bound {

@@ -1,13 +1,13 @@
 //! Where the rows of a table stand, found once per call.
 
-ghost use Rattle.std.specs.Prelude.{◌≡◌, ◌^◌, ◌<◌, ◌≤◌};
+ghost use Rattle.std.specs.Prelude.{◌≡◌, ◌+◌, ◌*◌, ◌^◌, ◌<◌, ◌≤◌};
 ghost use Rattle.table.specs.Rows.{place};
 ghost use Rattle.table.specs.Layouts.{Laid, NoOffsetsPast};
 
 use grammar::Grammar;
 
 /// The bound of a table, its number of rows, and for each slot the row of its first suffix.
-// An array for the most slots that a grammar has: a flight kit has no heap.
+// An array for the most slots that a grammar has: the library uses no heap.
 #[derive(Drop)]
 pub(crate) struct Layout {
     pub(crate) bound: usize,
@@ -16,6 +16,15 @@ pub(crate) struct Layout {
 }
 
 impl Layout {
+    /// How many cells the table needs.
+    pub(crate) fn needed(&self) -> usize
+        requires low { self.now.bound ≤ 48 }
+        requires few { self.now.rows ≤ 400 }
+        ensures { result ≡ self.now.rows * (self.now.bound + 1) }
+    {
+        self.rows * (self.bound + 1)
+    }
+
     /// Which cell is that of a row for the length `m`.
     pub(crate) fn place(&self, row: usize, m: usize) -> usize
         requires low { self.now.bound ≤ 48 }

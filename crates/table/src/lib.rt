@@ -33,7 +33,7 @@ pub const GREATEST_BOUND: usize = 48;
 
 /// What a row of a table counts: a nonterminal, or a suffix, the right-hand side of a slot from a position on.
 ///
-/// No call takes or gives one: it is public for the definitions that speak of rows.
+/// `Counts::row` takes one, and definitions speak of rows.
 #[derive(Clone, Copy)]
 pub enum Row {
     Nonterminal(u8),
@@ -63,7 +63,7 @@ fn room<G: Grammar>(g: &G, bound: usize, cells: usize) -> Result<Layout, Fault>
         return Err(Fault::TooLong(bound as u64));
     }
     let layout = lay_out(g, bound);
-    if layout.rows * (bound + 1) > cells {
+    if layout.needed() > cells {
         return Err(Fault::ShortMemory(Memory::Cells));
     }
     Ok(layout)
@@ -75,8 +75,8 @@ fn room<G: Grammar>(g: &G, bound: usize, cells: usize) -> Result<Layout, Fault>
 pub fn needed_cells<G: Grammar>(g: &G, table: &Table<'_>) -> Result<usize, Fault>
     ensures { NeededAnswer (G.meaning g.now) table.now.bound table.now.cells.now result }
 {
-    let rows = room(g, table.bound, table.cells.len())?.rows;
-    Ok(rows * (table.bound + 1))
+    let room = room(g, table.bound, table.cells.len())?;
+    Ok(room.needed())
 }
 
 /// Fills the needed cells with the counts: each is how many sentences its nonterminal has of its length, or how many ways its suffix has at that length.

@@ -6,7 +6,7 @@ ghost use Rattle.theory.specs.Count.{right_of};
 ghost use Rattle.table.specs.Terms.{symbol_cell};
 ghost use Rattle.table.specs.Layouts.{SymbolRow};
 ghost use Rattle.table.specs.Filling.{NeedsNoRest, LeadingCorrect};
-ghost use Rattle.table.specs.Seen.{grammar_of, bound_of};
+ghost use Rattle.table.specs.CellsOf.{grammar_of, bound_of};
 
 use crate::cells::Cells;
 use grammar::{Grammar, Symbol};
@@ -33,6 +33,7 @@ impl<G: Grammar> Cells<'_, G> {
         ensures last { NeedsNoRest (grammar_of self.now) (right_of ((grammar_of self.now).slot s)) result }
     {
         let end = self.grammar.length(s) - 1;
+        // A `for` that ends early: the closure of a `find` would need clauses of its own.
         for p in 0..end {
             if !self.is_nullable(self.grammar.symbol_at(s, p).unwrap()) {
                 return p;

@@ -51,7 +51,7 @@ impl<G: Grammar> Counts<'_, G> {
     }
 
     // The cells, to be read by row and length.
-    fn cells(&self) -> Cells<'_, G>
+    fn view(&self) -> Cells<'_, G>
         ensures { Shows self.now result }
     {
         Cells {
@@ -66,7 +66,7 @@ impl<G: Grammar> Counts<'_, G> {
         ensures { result ≡ if_left (left_of ((grammar_of self.now).slot slot)) a (side_ways (right_of ((grammar_of self.now).slot slot)) (counted_row self.now (Row.Suffix slot 0)) m) }
     {
         if slot < self.grammar.slots() && m <= self.layout.bound {
-            self.cells().slot_count(a, slot, m)
+            self.view().slot_count(a, slot, m)
         } else {
             0
         }

@@ -7,7 +7,7 @@ ghost use Rattle.table.specs.Equations.{suffix_cell, equation};
 ghost use Rattle.table.specs.Terms.{from_cell, rest_cell, symbol_sum};
 ghost use Rattle.table.specs.Layouts.{AtRow, ReadOf, read_sum, SymbolRow, TermsRow};
 ghost use Rattle.table.specs.Filling.{Within};
-ghost use Rattle.table.specs.Seen.{grammar_of, bound_of};
+ghost use Rattle.table.specs.CellsOf.{grammar_of, bound_of};
 
 use crate::Row;
 use crate::cells::Cells;
@@ -67,6 +67,7 @@ pub(crate) fn terms_of<G: Grammar>(g: &G, row: Row, at: usize) -> Terms
     }
 }
 
+// The clauses on a row, a slot or a length speak of an argument of the one call, not of the cells: they stay clauses.
 impl<G: Grammar> Cells<'_, G> {
     /// The cell of a row for the length `m`.
     pub(crate) fn cell(&self, row: usize, m: usize) -> u64

@@ -1,6 +1,6 @@
 use Rattle.table.specs.Rows.{first_row, place}
 use Rattle.table.specs.Equations.{ObeyBelow}
-use Rattle.table.specs.Seen.{grammar_of, bound_of}
+use Rattle.table.specs.CellsOf.{grammar_of, bound_of}
 use Rattle.table.proofs.cells.Cells.check_all.Given as goal
 
 abbrev pub invariant-loop-a : goal.invariant-loop-a

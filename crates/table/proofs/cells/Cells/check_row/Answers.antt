@@ -1,5 +1,5 @@
 use Rattle.std.proofs.Common.{◌+◌, arith}
-use Rattle.table.specs.Seen.{grammar_of, bound_of}
+use Rattle.table.specs.CellsOf.{grammar_of, bound_of}
 use Rattle.table.proofs.Rows.{row_inside, row_after, place_small}
 use Rattle.table.proofs.RowTerms.{read_within, read_rows, row_broken, row_agrees}
 use Rattle.table.proofs.cells.Cells.check_row.Goals as goal

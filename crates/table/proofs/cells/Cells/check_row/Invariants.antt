@@ -1,6 +1,6 @@
 use Rattle.table.specs.Rows.{place}
 use Rattle.table.specs.Equations.{ObeyBelow}
-use Rattle.table.specs.Seen.{grammar_of, bound_of}
+use Rattle.table.specs.CellsOf.{grammar_of, bound_of}
 use Rattle.table.proofs.cells.Cells.check_row.Given as goal
 
 abbrev pub invariant-loop-m : goal.invariant-loop-m

@@ -1,7 +1,7 @@
 use Rattle.std.proofs.Common.{◌≡◌, ℕ, ◌+◌, subst, arith}
 use Rattle.table.specs.Rows.{first_row, place}
 use Rattle.table.specs.Equations.{ObeyBelow}
-use Rattle.table.specs.Seen.{grammar_of, bound_of}
+use Rattle.table.specs.CellsOf.{grammar_of, bound_of}
 use Rattle.table.proofs.Rows.{first_row_more}
 use Rattle.table.proofs.cells.Cells.check_slot.Goals as goal
 

@@ -1,7 +1,7 @@
 use Rattle.std.proofs.Common.{◌+◌, ◌-◌, ◌≤◌, IsSome, length, sym, ◌∙◌, subst, arith}
 use Rattle.theory.specs.Sets.{none}
 use Rattle.theory.specs.Count.{right_of}
-use Rattle.table.specs.Seen.{grammar_of, bound_of}
+use Rattle.table.specs.CellsOf.{grammar_of, bound_of}
 use Rattle.table.proofs.Shown.{shown_at, is_shown, symbol_row}
 use Rattle.table.proofs.Prefix.{prefix_ends, prefix_more, end_last}
 use Rattle.table.proofs.cells.Cells.prefix_end.Goals as goal

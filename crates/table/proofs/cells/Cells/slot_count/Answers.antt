@@ -1,6 +1,6 @@
 use Rattle.std.proofs.Common.{◌+◌, ◌<◌, arith}
 use Rattle.table.specs.Rows.{first_row, rows}
-use Rattle.table.specs.Seen.{grammar_of}
+use Rattle.table.specs.CellsOf.{grammar_of}
 use Rattle.table.proofs.Rows.{suffix_before}
 use Rattle.table.proofs.cells.Cells.slot_count.Goals as goal
 

@@ -3,7 +3,7 @@ use Rattle.theory.specs.Count.{right_of}
 use Rattle.theory.proofs.Counting.{slots_none, slots_more, slots_le}
 use Rattle.table.specs.Rows.{first_row}
 use Rattle.table.specs.Equations.{suffix_cell}
-use Rattle.table.specs.Seen.{grammar_of, bound_of}
+use Rattle.table.specs.CellsOf.{grammar_of, bound_of}
 use Rattle.table.proofs.cells.Cells.slots_sum.Goals as goal
 
 pub loop-s-init : goal.loop-s-init

@@ -2,7 +2,7 @@ use Rattle.std.proofs.Common.{◌≡◌, ◌^◌, ◌<◌}
 use Rattle.theory.specs.Count.{right_of, sum_slots}
 use Rattle.table.specs.Rows.{first_row}
 use Rattle.table.specs.Equations.{suffix_cell}
-use Rattle.table.specs.Seen.{grammar_of, bound_of}
+use Rattle.table.specs.CellsOf.{grammar_of, bound_of}
 use Rattle.table.proofs.cells.Cells.slots_sum.Given as goal
 
 abbrev pub invariant-loop-s : goal.invariant-loop-s

@@ -4,7 +4,7 @@ use Rattle.grammar.specs.declared.Symbol.TheVariants.{Nonterminal}
 use Rattle.table.specs.Rows.{cell_at}
 use Rattle.table.specs.Terms.{symbol_sum}
 use Rattle.table.specs.Filling.{Within}
-use Rattle.table.specs.Seen.{bound_of}
+use Rattle.table.specs.CellsOf.{bound_of}
 use Rattle.table.proofs.Terms.{last_sum}
 use Rattle.table.proofs.cells.Cells.split_sum.Goals as goal
 

@@ -3,7 +3,7 @@ use Rattle.std.proofs.lemmas.Bool.{ne_eqb}
 use Rattle.theory.specs.Count.{one_at, sum_splits}
 use Rattle.table.specs.Terms.{rest_cell}
 use Rattle.table.specs.Filling.{Within}
-use Rattle.table.specs.Seen.{bound_of}
+use Rattle.table.specs.CellsOf.{bound_of}
 use Rattle.table.proofs.Terms.{terminal_none, terminal_before, known_sum}
 use Rattle.table.proofs.cells.Cells.terminal_sum.Goals as goal
 

@@ -1,7 +1,7 @@
 use Rattle.std.proofs.Common.{◌≡◌, ℕ, Some, None, Option, Err, sym, refl, ap, arith}
 use Rattle.std.specs.Option.{ok_or}
 use Rattle.std.proofs.lemmas.Result.{err_from_is_err_and}
-use Rattle.table.specs.Making.{bound_of}
+use Rattle.table.specs.FillingOf.{bound_of}
 use Rattle.table.specs.declared.filling.TooLarge.{TooLarge}
 use Rattle.table.proofs.Rows.{row_cell, place_small}
 use Rattle.table.proofs.Fills.{keeps_ready}

@@ -1,6 +1,6 @@
 use Rattle.std.proofs.Common.{◌<◌, refl, arith, below_more}
 use Rattle.grammar.proofs.Derived.{ll1_of}
-use Rattle.table.specs.Making.{PrefixRight}
+use Rattle.table.specs.FillingOf.{PrefixRight}
 use Rattle.table.proofs.Due.{nonterminal_due}
 use Rattle.table.proofs.Stays.{onward, back, stays_corners, stays_prefix, stays_on, nonterminal_done}
 use Rattle.table.proofs.filling.Filling.fill_nonterminal.Goals as goal

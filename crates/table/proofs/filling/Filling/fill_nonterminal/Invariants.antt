@@ -1,5 +1,5 @@
 use Rattle.std.proofs.Common.{ℕ, ◌<◌}
-use Rattle.table.specs.Making.{PrefixRight, Stays}
+use Rattle.table.specs.FillingOf.{PrefixRight, Stays}
 use Rattle.table.proofs.filling.Filling.fill_nonterminal.Given as goal
 
 abbrev pub invariant-loop-s : goal.invariant-loop-s

@@ -1,5 +1,5 @@
 use Rattle.std.proofs.Common.{◌≡◌, ℕ, ◌+◌, ◌<◌, sym, ◌∙◌, subst, arith}
-use Rattle.table.specs.Making.{grammar_of, DoneRight, Stays}
+use Rattle.table.specs.FillingOf.{grammar_of, DoneRight, Stays}
 use Rattle.table.specs.declared.filling.Filling.{Filling}
 use Rattle.table.proofs.Fills.{level_skip}
 use Rattle.table.proofs.Stays.{onward, stays_on, level_more}

@@ -1,5 +1,5 @@
 use Rattle.std.proofs.Common.{◌≡◌, ℕ, ◌<◌}
-use Rattle.table.specs.Making.{grammar_of, DoneRight, Stays}
+use Rattle.table.specs.FillingOf.{grammar_of, DoneRight, Stays}
 use Rattle.table.proofs.filling.Filling.fill_nonterminals.Given as goal
 
 abbrev pub invariant-loop-level : goal.invariant-loop-level

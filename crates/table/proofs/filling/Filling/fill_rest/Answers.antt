@@ -3,7 +3,7 @@ use Rattle.theory.specs.Sets.{Nullable}
 use Rattle.theory.specs.Count.{right_of}
 use Rattle.table.specs.Rows.{RowOf}
 use Rattle.table.specs.Filling.{Correct, LeadingCorrect}
-use Rattle.table.specs.Making.{grammar_of}
+use Rattle.table.specs.FillingOf.{grammar_of}
 use Rattle.table.specs.declared.Row.TheVariants.{Suffix}
 use Rattle.table.proofs.Prefix.{end_last, leaders_zero, done_leaders, done_firsts, rest_done}
 use Rattle.table.proofs.Stays.{onward, right_back, unless_over, read_back, read_on}
@@ -14,7 +14,7 @@ prefix_end-end-requires-clause-leaders g c =
     let x = c.args.self.now in
     let f = g.met.G.Grammar.implements x.grammar.now in
     let h = leaders_zero f.limits x.ready.below c.args.s (done_leaders f.limits c.requires.prefixes c.args.s) in
-    read_on c.seen.ensures (λ h l t. LeadingCorrect (g.G.Grammar.meaning h) l.bound t (right_of ((g.G.Grammar.meaning h).slot c.args.s)) 0) h
+    read_on c.view.ensures (λ h l t. LeadingCorrect (g.G.Grammar.meaning h) l.bound t (right_of ((g.G.Grammar.meaning h).slot c.args.s)) 0) h
 
 pub fill_suffixes-requires-clause-firsts : goal.fill_suffixes-requires-clause-firsts
 fill_suffixes-requires-clause-firsts g c =
@@ -34,8 +34,8 @@ returns-clause-done g c =
     let f = g.met.G.Grammar.implements x.grammar.now in
     let e = c.prefix_end-end.result in
     let got = c.fill_suffixes.ensures in
-    let far = read_back c.seen.ensures (λ h l t. e < length (right_of ((g.G.Grammar.meaning h).slot c.args.s))) c.prefix_end-end.ensures.far in
-    let before = read_back c.seen.ensures (λ h l t. Nullable (g.G.Grammar.meaning h) (take e (right_of ((g.G.Grammar.meaning h).slot c.args.s)))) c.prefix_end-end.ensures.before in
+    let far = read_back c.view.ensures (λ h l t. e < length (right_of ((g.G.Grammar.meaning h).slot c.args.s))) c.prefix_end-end.ensures.far in
+    let before = read_back c.view.ensures (λ h l t. Nullable (g.G.Grammar.meaning h) (take e (right_of ((g.G.Grammar.meaning h).slot c.args.s)))) c.prefix_end-end.ensures.before in
     let d = rest_done f.limits c.fill_suffixes.result c.args.s e c.length-n.result c.requires.inside x.ready.short c.requires.prefixes got.stays.keeps far before c.length-n.ensures
     (unless_over (grammar_of x) x.length c.fill_suffixes.result (λ d q o l. right_back got.stays (d q o l)) got.done) in
     unless_over (grammar_of x) x.length c.fill_suffixes.result

@@ -1,6 +1,6 @@
 use Rattle.std.proofs.Common.{ℕ, ◌<◌, below_more}
 use Rattle.table.specs.Rows.{RowOf}
-use Rattle.table.specs.Making.{grammar_of, Right}
+use Rattle.table.specs.FillingOf.{grammar_of, Right}
 use Rattle.table.specs.declared.Row.TheVariants.{Suffix}
 use Rattle.table.proofs.Stays.{back, stays_right, stays_done, stays_on}
 use Rattle.table.proofs.filling.Filling.fill_rests.Goals as goal

@@ -1,6 +1,6 @@
 use Rattle.std.proofs.Common.{ℕ, ◌<◌}
 use Rattle.table.specs.Rows.{RowOf}
-use Rattle.table.specs.Making.{grammar_of, Right, Stays}
+use Rattle.table.specs.FillingOf.{grammar_of, Right, Stays}
 use Rattle.table.specs.declared.Row.TheVariants.{Suffix}
 use Rattle.table.proofs.filling.Filling.fill_rests.Given as goal
 

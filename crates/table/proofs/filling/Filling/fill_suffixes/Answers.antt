@@ -6,7 +6,7 @@ use Rattle.table.specs.Equations.{equation}
 use Rattle.table.specs.Counts.{count_of}
 use Rattle.table.specs.Layouts.{AtRow}
 use Rattle.table.specs.Filling.{Correct, NeedsNoRest}
-use Rattle.table.specs.Making.{grammar_of, bound_of, Right}
+use Rattle.table.specs.FillingOf.{grammar_of, bound_of, Right}
 use Rattle.table.specs.declared.Row.TheVariants.{Suffix}
 use Rattle.table.proofs.Fills.{keeps_below}
 use Rattle.table.proofs.Stays.{onward, right_back, stays_on, stays_right}

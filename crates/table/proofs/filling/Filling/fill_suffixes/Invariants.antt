@@ -1,5 +1,5 @@
 use Rattle.std.proofs.Common.{ℕ, ◌<◌, ◌≤◌}
-use Rattle.table.specs.Making.{Right, Stays}
+use Rattle.table.specs.FillingOf.{Right, Stays}
 use Rattle.table.specs.declared.Row.TheVariants.{Suffix}
 use Rattle.table.proofs.filling.Filling.fill_suffixes.Given as goal
 

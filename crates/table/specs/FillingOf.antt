@@ -53,7 +53,7 @@ pub record Stays {T : Type 0} {members : Ghosts T} (before after : Filling T mem
   pub keeps : Keeps (grammar_of before) (bound_of before) before.cells.now after.cells.now
 
 -- the cells that are filled, to be read
-pub record Reads {T : Type 0} {members : Ghosts T} (x : Filling T members) (y : Cells T members) : Type 0 where
+pub record Shows {T : Type 0} {members : Ghosts T} (x : Filling T members) (y : Cells T members) : Type 0 where
   pub grammar : y.grammar.now ≡ x.grammar.now
   pub layout : y.layout.now ≡ x.layout.now
   pub cells : y.cells.now ≡ x.cells.now

@@ -66,11 +66,3 @@ pub checked_answer : {T : Type 0} {members : Ghosts T} {g : T} {level : ℕ → 
     → CheckedAnswer g L t n lent r
 checked_answer ll (Ok x) h = record { answer = h; exactly = (λ e. h.0, λ o. refl) }
 checked_answer ll (Err f) h = record { answer = h; exactly = (λ e. let z : ◌≡◌ {A = ℕ} 0 1 = cc in absurd (omega arith), λ o. absurd (usable_passes ll o h)) }
-
--- what refuses a call that uses no memory over sentences of length 0 refuses the check
-pub check_refused : {G : Cfg} {L : ℕ} {t : List ℕ} {f : Fault} → Unusable G L t 0 (record { stack = None; output = None }) f → CheckRefused G L t f
-check_refused (insufficient (checked.no_room l r)) = no_room r
-check_refused (insufficient (checked.too_long l o)) = absurd (omega arith)
-check_refused (insufficient (checked.short_stack r l o)) = absurd o
-check_refused (insufficient (checked.short_output r l e o)) = absurd o
-check_refused (checked.broken i s b) = broken i s.room b

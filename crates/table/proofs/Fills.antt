@@ -77,8 +77,3 @@ keeps_done k l i d = record {
 -- the nonterminals of level k up to a, where a is of another level
 pub level_skip : (D : ℕ → Type 0) (h : ℕ → ℕ) (k a : ℕ) → (h a ≡ k → ⊥) → ((B : ℕ) → B < a → h B ≡ k → D B) → (B : ℕ) → B < a + 1 → h B ≡ k → D B
 level_skip D h k a ne same B o e = ⊎_elim (λ q. absurd (ne (ap h (sym q) ∙ e))) (λ d. same B (omega arith) e) (cases_eq B a)
-
--- the levels below the next, once those below k and those of level k are done
-pub level_next : {N : ℕ} (D : ℕ → Type 0) (h : ℕ → ℕ) (k : ℕ) → ((B : ℕ) → B < N → h B < k → D B) → ((B : ℕ) → B < N → h B ≡ k → D B)
-    → (B : ℕ) → B < N → h B < k + 1 → D B
-level_next D h k lower same B l o = ⊎_elim (same B l) (λ ne. lower B l (omega arith)) (cases_eq (h B) k)

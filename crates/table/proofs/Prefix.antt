@@ -17,7 +17,8 @@ use Rattle.table.specs.Filling.{Correct, CorrectBelow, Keeps, UnlessOver, Firsts
 use Rattle.table.specs.declared.filling.TooLarge.{TooLarge}
 use Rattle.table.specs.declared.Row.TheVariants.{Nonterminal, Suffix}
 use Rattle.table.proofs.Sides.{drop_next, symbol_there, take_next, nonterminal_known}
-use Rattle.table.proofs.Shown.{shown_at, symbol_cell_is}
+use Rattle.grammar.proofs.Symbols.{stands_at}
+use Rattle.table.proofs.Shown.{symbol_cell_is}
 
 nullable_take : {G : Cfg} {Xs : List Symbol} → Nullable G Xs → (q : ℕ) → Nullable G (take q Xs)
 nullable_take none zero = none
@@ -93,9 +94,9 @@ module _ {G : Cfg} (L : ℕ) (t : List ℕ) (s p : ℕ) (X : Value) (before : Nu
   -- what counts nothing at length 0 ends the prefix
   pub prefix_ends : false ≡ ltb 0 (symbol_cell L t X 0) → NeedsNoRest G (right_of (G.slot s)) p
   prefix_ends e Y Ys d =
-      let i = shown_at (right_of (G.slot s)) p X is in
-      let q : i.it ≡ Y = cc (i.suffix, d) in
-      inr (go Y d (omega (arith, ltb-false 0 (symbol_cell L t X 0) (sym e), symbol_cell_is L t X Y (ap value_of (sym q) ∙ i.value) 0)))
+      let i = stands_at (right_of (G.slot s)) p X is in
+      let q : i.0 ≡ Y = cc (i.1, d) in
+      inr (go Y d (omega (arith, ltb-false 0 (symbol_cell L t X 0) (sym e), symbol_cell_is L t X Y (ap value_of (sym q) ∙ i.2) 0)))
     where
       go : (Z : Symbol) → drop p (right_of (G.slot s)) ≡ Z ∷ Ys → symbol_count (cell_at L t) Z 0 ≡ 0 → symbol_count (count G) Z 0 ≡ 0
       go (terminal a) f k = refl
@@ -104,8 +105,8 @@ module _ {G : Cfg} (L : ℕ) (t : List ℕ) (s p : ℕ) (X : Value) (before : Nu
   -- and what counts something goes on
   pub prefix_more : true ≡ ltb 0 (symbol_cell L t X 0) → Nullable G (take (p + 1) (right_of (G.slot s)))
   prefix_more e =
-      let i = shown_at (right_of (G.slot s)) p X is in
-      go i.it i.suffix (omega (arith, ltb-true 0 (symbol_cell L t X 0) (sym e), symbol_cell_is L t X i.it i.value 0))
+      let i = stands_at (right_of (G.slot s)) p X is in
+      go i.0 i.1 (omega (arith, ltb-true 0 (symbol_cell L t X 0) (sym e), symbol_cell_is L t X i.0 i.2 0))
     where
       go : (Z : Symbol) → drop p (right_of (G.slot s)) ≡ Z ∷ drop (suc p) (right_of (G.slot s)) → 0 < symbol_count (cell_at L t) Z 0 → Nullable G (take (p + 1) (right_of (G.slot s)))
       go (terminal a) f k = absurd (omega arith)

@@ -18,7 +18,8 @@ use Rattle.table.specs.declared.Row.TheVariants.{Nonterminal, Suffix}
 use Rattle.table.specs.declared.sums.Terms.{Terms}
 use Rattle.table.specs.declared.sums.Terms.TheVariants.{Slots, Split}
 use Rattle.table.proofs.Sides.{drop_next}
-use Rattle.table.proofs.Shown.{ShownAt, shown_at, symbol_cell_is, symbol_row}
+use Rattle.grammar.proofs.Symbols.{stands_at}
+use Rattle.table.proofs.Shown.{ShownAt, symbol_cell_is, symbol_row}
 use Rattle.table.proofs.Rows.{suffix_before, obey_more}
 
 -- the rest behind a symbol, none where that is the last
@@ -32,10 +33,10 @@ module _ {G : Cfg} (z : Limits G) where
       → o ≡ then_some (ltb (p + 1) (length (right_of (G.slot s)))) (r + 1) → symbol_sum L t X o m ≡ suffix_sum L t (drop p (right_of (G.slot s))) r m
   split_is L t s p m X o r i h =
       let w = right_of (G.slot s) in
-      let n = drop_next w p i.it (drop (suc p) w) i.suffix in
-      upward_same (symbol_cell L t X) (symbol_count (cell_at L t) i.it) (rest_cell L t o) (suffix_cell L t (drop (suc p) w) (r + 1)) m (m + 1)
-      (symbol_cell_is L t X i.it i.value) (rest_cell_is L t (length w) p (drop (suc p) w) o (r + 1) n.1 h)
-      ∙ ap (λ (Xs : List Symbol). suffix_sum L t Xs r m) (sym i.suffix)
+      let n = drop_next w p i.0 (drop (suc p) w) i.1 in
+      upward_same (symbol_cell L t X) (symbol_count (cell_at L t) i.0) (rest_cell L t o) (suffix_cell L t (drop (suc p) w) (r + 1)) m (m + 1)
+      (symbol_cell_is L t X i.0 i.2) (rest_cell_is L t (length w) p (drop (suc p) w) o (r + 1) n.1 h)
+      ∙ ap (λ (Xs : List Symbol). suffix_sum L t Xs r m) (sym i.1)
 
   -- what is read of a row gives its equation
   read_is : (L : ℕ) (t : List ℕ) {ρ : Row} {r : ℕ} (x : Terms) → AtRow G ρ r → ReadOf G ρ r x → (m : ℕ) → read_sum G L t x m ≡ equation G L t ρ m
@@ -46,7 +47,7 @@ module _ {G : Cfg} (z : Limits G) where
       go (Nonterminal A) (Split X o) e q = absurd q
       go (Suffix s p) (Slots B) e q = absurd q
       go (Suffix s p) (Split X o) e q =
-          split_is L t s p m X o r (shown_at _ p X q.0) q.1 ∙ ap (λ (x : ℕ). suffix_sum L t (drop p (right_of (G.slot s))) x m) e
+          split_is L t s p m X o r (stands_at _ p X q.0) q.1 ∙ ap (λ (x : ℕ). suffix_sum L t (drop p (right_of (G.slot s))) x m) e
 
   -- so a sum that is answered by what is read is answered by the equation
   pub read_within : (L : ℕ) (t : List ℕ) {ρ : Row} {r : ℕ} (x : Terms) → AtRow G ρ r → ReadOf G ρ r x → (m : ℕ) (o : Option ℕ) → Within (read_sum G L t x m) o → Within (equation G L t ρ m) o
@@ -68,7 +69,7 @@ module _ {G : Cfg} (z : Limits G) where
       go (Nonterminal A) (Slots B) e k q = tt
       go (Nonterminal A) (Split X o) e k q = absurd q
       go (Suffix s p) (Slots B) e k q = absurd q
-      go (Suffix s p) (Split X o) e k q = (symbol_row z s p X (shown_at _ p X q.0), rest s p o _ k.0 e refl q.1)
+      go (Suffix s p) (Split X o) e k q = (symbol_row z s p X (stands_at _ p X q.0), rest s p o _ k.0 e refl q.1)
 
 -- a cell that holds the sum, and one that does not
 held : (n h : ℕ) (o : Option ℕ) → Within n o → not (option_eq eqb o (Some h)) ≡ false → (h ≡ n) × (h < 2 ^ 63)

@@ -1,5 +1,5 @@
 -- Right-hand sides by the symbols that the program reads of them.
-use Rattle.std.proofs.Common.{◌≡◌, ℕ, zero, suc, ◌<◌, List, [], ◌∷◌, length, drop, Some, IsSome, sym, refl, ap, subst, arith}
+use Rattle.std.proofs.Common.{◌≡◌, ℕ, zero, suc, ◌<◌, List, [], ◌∷◌, length, drop, IsSome, sym, refl, ap, subst, arith}
 use Rattle.theory.specs.Grammar.{Symbol, terminal, nonterminal, Cfg}
 use Rattle.theory.specs.Sound.{Limits}
 use Rattle.theory.specs.Count.{right_of, symbol_count}
@@ -11,16 +11,9 @@ use Rattle.table.specs.Layouts.{SymbolRow}
 use Rattle.table.proofs.Sides.{nonterminal_known}
 use Rattle.table.proofs.Rows.{nonterminal_row}
 
--- the symbol that is read at p
-pub record ShownAt (Ys : List Symbol) (p : ℕ) (X : Value) : Type 0 where
-  pub it : Symbol
-  pub value : value_of it ≡ X
-  pub suffix : drop p Ys ≡ it ∷ drop (suc p) Ys
-
-pub shown_at : (Ys : List Symbol) (p : ℕ) (X : Value) → Some X ≡ symbol_at Ys p → ShownAt Ys p X
-shown_at [] p X e = let z : ◌≡◌ {A = ℕ} 0 1 = cc in absurd (omega arith)
-shown_at (Y ∷ Ys) zero X e = record { it = Y; value = cc; suffix = refl }
-shown_at (Y ∷ Ys) (suc p) X e = let i = shown_at Ys p X e in record { it = i.it; value = i.value; suffix = i.suffix }
+-- the symbol that is read at p, what stands behind it, and what it is as a value
+abbrev pub ShownAt : List Symbol → ℕ → Value → Type 0
+ShownAt Ys p X = (Y : Symbol) × (drop p Ys ≡ Y ∷ drop (suc p) Ys) × (value_of Y ≡ X)
 
 -- a position in a list has one
 pub is_shown : (Ys : List Symbol) (p : ℕ) → p < length Ys → IsSome (symbol_at Ys p)
@@ -35,7 +28,7 @@ symbol_cell_is L t X (nonterminal B) e j = ap (λ (Z : Value). symbol_cell L t Z
 
 -- a nonterminal that is read has a row
 pub symbol_row : {G : Cfg} → Limits G → (s p : ℕ) (X : Value) → ShownAt (right_of (G.slot s)) p X → SymbolRow G X
-symbol_row {G} z s p X i = subst (λ (Y : Value). SymbolRow G Y) i.value (go i.it i.suffix)
+symbol_row {G} z s p X i = subst (λ (Y : Value). SymbolRow G Y) i.2 (go i.0 i.1)
   where
     go : (Y : Symbol) → drop p (right_of (G.slot s)) ≡ Y ∷ drop (suc p) (right_of (G.slot s)) → SymbolRow G (value_of Y)
     go (terminal a) e = tt

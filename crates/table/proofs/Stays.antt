@@ -1,5 +1,5 @@
 -- What stays where cells are filled.
-use Rattle.std.proofs.Common.{◌≡◌, ℕ, ◌+◌, ◌^◌, ◌<◌, List, Ok, Err, Result, set, sym, refl, ap, ◌∙◌, subst, ⊎_elim, arith}
+use Rattle.std.proofs.Common.{◌≡◌, ℕ, ◌+◌, ◌^◌, ◌<◌, List, Ok, Err, Result, set, sym, ap, ◌∙◌, subst, ⊎_elim, arith}
 use Rattle.std.proofs.lemmas.Bool.{cases_eq}
 use Rattle.theory.specs.Grammar.{Cfg}
 use Rattle.grammar.specs.declared.Grammar.{Ghosts}
@@ -15,7 +15,7 @@ use Rattle.table.specs.declared.filling.Filling.{Filling}
 use Rattle.table.specs.declared.filling.TooLarge.{TooLarge}
 use Rattle.table.specs.declared.Row.{Row}
 use Rattle.table.specs.declared.Row.TheVariants.{Nonterminal, Suffix}
-use Rattle.table.proofs.Fills.{keeps_all, keeps_on, put_done, keeps_prefix, keeps_done}
+use Rattle.table.proofs.Fills.{keeps_on, put_done, keeps_prefix, keeps_done}
 
 -- what holds of the grammar, the layout and the length before holds of them after, and the other way round
 module _ {T : Type 0} {members : Ghosts T} {x y : Filling T members} (p : Stays x y) where
@@ -55,9 +55,6 @@ unless_over G m (Ok _) f h = f h
 unless_over G m (Err _) f h = h
 
 module _ {T : Type 0} {members : Ghosts T} where
-  pub stays_all : {x : Filling T members} → Stays x x
-  stays_all = record { grammar = refl; layout = refl; lent = refl; length = refl; keeps = keeps_all }
-
   pub stays_on : {x y z : Filling T members} → Stays x y → Stays y z → Stays x z
   stays_on {x} {y} {z} p q = record {
     grammar = q.grammar ∙ p.grammar;

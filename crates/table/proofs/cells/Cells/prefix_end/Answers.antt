@@ -2,7 +2,8 @@ use Rattle.std.proofs.Common.{◌+◌, ◌-◌, ◌≤◌, IsSome, length, sym, 
 use Rattle.theory.specs.Sets.{none}
 use Rattle.theory.specs.Count.{right_of}
 use Rattle.table.specs.CellsOf.{grammar_of, bound_of}
-use Rattle.table.proofs.Shown.{shown_at, is_shown, symbol_row}
+use Rattle.grammar.proofs.Symbols.{stands_at}
+use Rattle.table.proofs.Shown.{is_shown, symbol_row}
 use Rattle.table.proofs.Prefix.{prefix_ends, prefix_more, end_last}
 use Rattle.table.proofs.cells.Cells.prefix_end.Goals as goal
 
@@ -15,7 +16,7 @@ unwrap-requires g c = subst (λ o. IsSome o) (sym c.symbol_at.ensures) (is_shown
 pub is_nullable-requires : goal.is_nullable-requires
 is_nullable-requires g c =
     let f = g.met.G.Grammar.implements c.args.self.now.grammar.now in
-    symbol_row f.limits c.args.s c.loop-p.p c.unwrap.result (shown_at _ _ _ (sym c.unwrap.ensures ∙ c.symbol_at.ensures))
+    symbol_row f.limits c.args.s c.loop-p.p c.unwrap.result (stands_at (right_of ((g.G.Grammar.meaning c.args.self.now.grammar.now).slot c.args.s)) c.loop-p.p _ (sym c.unwrap.ensures ∙ c.symbol_at.ensures))
 
 pub returns-then-not-is_nullable-clause-last : goal.returns-then-not-is_nullable-clause-last
 returns-then-not-is_nullable-clause-last g c =

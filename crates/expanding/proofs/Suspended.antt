@@ -7,7 +7,7 @@ use Rattle.grammar.specs.declared.Symbol.TheVariants as value
 use Rattle.stack.specs.declared.Stack.{Stack}
 use Rattle.stack.specs.Held.{held, Put, Taken, Empty}
 use Rattle.stack.proofs.Tops.{held_none, held_length}
-use Rattle.table.specs.CountsOf.{grammar_of, bound_of}
+use Rattle.table.specs.GrammarCountsOf.{grammar_of, bound_of}
 use Rattle.walk.specs.Measure.{measure}
 use Rattle.expanding.specs.declared.frame.Frame.{Frame}
 use Rattle.expanding.specs.declared.frame.Part.{Part}

@@ -6,7 +6,7 @@ use Rattle.grammar.specs.Symbols.{symbol_at}
 use Rattle.grammar.specs.declared.Grammar.{Ghosts}
 use Rattle.grammar.specs.declared.Symbol.{Symbol}
 use Rattle.stack.specs.Held.{held}
-use Rattle.table.specs.CountsOf.{grammar_of, bound_of}
+use Rattle.table.specs.GrammarCountsOf.{grammar_of, bound_of}
 use Rattle.walk.specs.Depth.{side_of, Chain}
 use Rattle.walk.specs.Measure.{measure}
 use Rattle.expanding.specs.declared.frame.Frame.{Frame}

@@ -2,14 +2,14 @@
 
 ghost use Rattle.std.specs.Prelude.{◌≡◌, ℕ, ◌+◌, ◌-◌, ◌*◌, ◌/◌, ◌%◌, ◌^◌, ◌<◌, ◌≤◌, length};
 ghost use Rattle.theory.specs.Count.{count};
-ghost use Rattle.table.specs.CountsOf.{grammar_of, bound_of};
+ghost use Rattle.table.specs.GrammarCountsOf.{grammar_of, bound_of};
 ghost use Rattle.walk.specs.Splits.{sum_listed};
 ghost use Rattle.expanding.specs.Frames.{FrameOf, AtNonterminal};
 ghost use Rattle.expanding.specs.Dividing.{cell_of, Divided, Opened, Parted};
 
 use crate::frame::{Frame, Part};
 use grammar::Grammar;
-use table::{Counts, Row};
+use table::{GrammarCounts, Row};
 use walk::LengthPolicy;
 
 // The part of that length which has a rank among pairs of a first part and one of `rests` rests.
@@ -52,7 +52,7 @@ fn divide<O: LengthPolicy>(policy: &O, first: &[u64], rest: &[u64], m: usize, ra
 // The fields are those of `Ranking` in crate numbering: methods of a struct stand in the crate of that struct, so one struct would serve one of the two.
 #[derive(Drop)]
 pub(crate) struct Unranking<'a, G: Grammar, O> {
-    pub(crate) counts: &'a Counts<'a, G>,
+    pub(crate) counts: &'a GrammarCounts<'a, G>,
     pub(crate) policy: &'a O,
 }
 

@@ -3,7 +3,7 @@
 ghost use Rattle.std.specs.Prelude.{◌≡◌, ℕ, ◌+◌, ◌*◌, ◌<◌, ◌≤◌, [], length, Some, slice_index_or};
 ghost use Rattle.theory.specs.Count.{count};
 ghost use Rattle.theory.specs.Enumerate.{sentences};
-ghost use Rattle.table.specs.CountsOf.{grammar_of, bound_of};
+ghost use Rattle.table.specs.GrammarCountsOf.{grammar_of, bound_of};
 ghost use Rattle.grammar.specs.declared.Symbol.TheVariants.{Nonterminal};
 
 use crate::dividing::Unranking;

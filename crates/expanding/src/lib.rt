@@ -2,11 +2,11 @@
 
 #![tactic(auto)]
 
-ghost use Rattle.std.specs.Prelude.{◌≡◌, ℕ, ◌+◌, ◌*◌, ◌<◌, ◌≤◌, length, Some, MatchResult};
+ghost use Rattle.std.specs.Prelude.{◌≡◌, ℕ, ◌+◌, ◌*◌, ◌<◌, ◌≤◌, length, Some, IfOk, MatchResult};
 ghost use Rattle.fault.specs.declared.Fault.TheVariants.{NumberTooLarge};
 ghost use Rattle.theory.specs.Order.{ascending};
 ghost use Rattle.table.specs.Checked.{CheckedAnswer};
-ghost use Rattle.table.specs.CountsOf.{grammar_of, bound_of};
+ghost use Rattle.table.specs.GrammarCountsOf.{grammar_of, bound_of, counts_in};
 ghost use Rattle.expanding.specs.Calls.{SentenceAnswer, ExpandAnswer};
 ghost use Rattle.expanding.specs.Laws.{EachSentenceHasOneNumber};
 
@@ -15,7 +15,7 @@ use expansion::Expansion;
 use fault::Fault;
 pub use frame::Frame;
 use grammar::Grammar;
-use table::{Counts, Lent, Table};
+use table::{GrammarCounts, Lent, Table, checked_counts};
 use walk::{LengthPolicy, ShortestFirst};
 
 mod dividing;
@@ -29,14 +29,15 @@ fn counts_of<'a, G: Grammar>(
     n: usize,
     stack: usize,
     output: usize,
-) -> Result<Counts<'a, G>, Fault>
-    ensures { CheckedAnswer g.now table.now.bound table.now.cells.now n (record { stack = Some stack; output = Some output }) result }
+) -> Result<GrammarCounts<'a, G>, Fault>
+    ensures answer { CheckedAnswer (G.meaning g.now) table.now.bound table.now.cells.now n (record { stack = Some stack; output = Some output }) (counts_in result) }
+    ensures grammar { IfOk result (λ counts. counts.grammar.now ≡ g.now) }
 {
     let lent = Lent {
         stack: Some(stack),
         output: Some(output),
     };
-    table::checked(g, table, n, lent)
+    checked_counts(g, table, n, lent)
 }
 
 // Refuses a number that is not below the count.
@@ -71,6 +72,26 @@ fn write_numbered<G: Grammar, O: LengthPolicy>(
     Ok(())
 }
 
+// Expands a number in the order of part lengths that the policy gives.
+fn expand_by<G: Grammar, O: LengthPolicy>(
+    g: &G,
+    policy: &O,
+    table: &Table<'_>,
+    n: usize,
+    number: u64,
+    stack: &mut [Frame],
+    output: &mut [u8],
+) -> Result<(), Fault>
+    ensures { ExpandAnswer (O.order policy.now) (G.meaning g.now) table.now.bound table.now.cells.now n number stack.old output.old output.new result }
+{
+    let counts = counts_of(g, table, n, stack.len(), output.len())?;
+    let unranking = Unranking {
+        counts: &counts,
+        policy,
+    };
+    write_numbered(unranking, n, number, stack, output)
+}
+
 /// Writes the sentence of the start of that length and number to the front of the output, one byte for each token.
 ///
 /// Fault 9 if the bound is above 48, place the bound, or the length above the bound, place the length; 10 if there are too few cells, place 1,
@@ -87,12 +108,7 @@ pub fn expand<G: Grammar>(
 ) -> Result<(), Fault>
     ensures { ExpandAnswer ascending (G.meaning g.now) table.now.bound table.now.cells.now length number stack.old output.old output.new result }
 {
-    let counts = counts_of(g, table, length, stack.len(), output.len())?;
-    let unranking = Unranking {
-        counts: &counts,
-        policy: &ShortestFirst,
-    };
-    write_numbered(unranking, length, number, stack, output)
+    expand_by(g, &ShortestFirst, table, length, number, stack, output)
 }
 
 /// Each sentence has exactly one number: it is below the count, an expansion of it that succeeds leaves that sentence, and no other number does.

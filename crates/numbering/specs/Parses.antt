@@ -1,11 +1,11 @@
 -- Where a parse stands as a value of the program, and what its calls come to. Assumes nothing.
-use Rattle.std.specs.Prelude.{◌≡◌, ℕ, List, Some, None, Ok, Err, Option, Result}
+use Rattle.std.specs.Prelude.{◌≡◌, ℕ, List, ◌∷◌, Some, None, Ok, Err, Option, Result}
 use Rattle.theory.specs.Order.{LengthOrder, Rank}
 use Rattle.grammar.specs.Symbols.{symbol_at}
 use Rattle.grammar.specs.declared.Grammar.{Ghosts}
 use Rattle.grammar.specs.declared.Symbol.{Symbol}
-use Rattle.table.specs.CountsOf.{grammar_of}
-use Rattle.numbering.specs.Parts.{frame_side}
+use Rattle.table.specs.GrammarCountsOf.{grammar_of}
+use Rattle.numbering.specs.Parts.{begun, frame_side}
 use Rattle.numbering.specs.Frames.{suspended_frames, room_of, ParseAt, Goes_on, ParseStops}
 use Rattle.numbering.specs.declared.parsing.Stopped.{Stopped}
 use Rattle.numbering.specs.declared.ranking.Ranking.{Ranking}
@@ -33,6 +33,13 @@ pub record Goes {T U : Type 0} {members : Ghosts T} (order : U → LengthOrder) 
   pub on :
       Goes_on (order p.ranking.policy.now) (grammar_of p.ranking.counts.now) (members.chosen p.ranking.counts.now.grammar.now) (members.levels p.ranking.counts.now.grammar.now) p.tokens.now
       (room_of p.suspended) p.frame (suspended_frames p.suspended) q.frame (suspended_frames q.suspended) q.gone
+
+-- what opening a frame for a nonterminal of which `choice` is chosen leaves: where there is one, the frame at work is suspended and the new one stands at the front of that slot, with
+-- no token gone; else there is none
+abbrev pub Opens : {T U : Type 0} {members : Ghosts T} → Option ℕ → Parse T U members → Parse T U members → Result (Unit {0}) Stopped → Type 0
+Opens choice p q (Ok _) =
+    (s : ℕ) × (choice ≡ Some s) × (q.frame ≡ begun p.frame s) × (suspended_frames q.suspended ≡ p.frame ∷ suspended_frames p.suspended) × (q.gone ≡ p.gone)
+Opens choice p q (Err _) = choice ≡ None
 
 -- what a step comes to: the parse goes on, or the tokens have that rank, or the parse stops
 abbrev pub StepAnswer : {T U : Type 0} {members : Ghosts T} → (U → LengthOrder) → Parse T U members → Parse T U members → Result (Option ℕ) Stopped → Type 0

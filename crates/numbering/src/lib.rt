@@ -2,8 +2,9 @@
 
 #![tactic(auto)]
 
-ghost use Rattle.std.specs.Prelude.{◌≡◌, length};
+ghost use Rattle.std.specs.Prelude.{◌≡◌, length, IfOk};
 ghost use Rattle.table.specs.Checked.{CheckedAnswer};
+ghost use Rattle.table.specs.GrammarCountsOf.{counts_in};
 ghost use Rattle.numbering.specs.Calls.{lent_stack, NumberAnswer};
 
 use fault::Fault;
@@ -11,7 +12,7 @@ pub use frame::Frame;
 use grammar::Grammar;
 use parsing::rank;
 use ranking::Ranking;
-use table::{Counts, Lent, Table, checked};
+use table::{GrammarCounts, Lent, Table, checked_counts};
 use walk::ShortestFirst;
 
 mod frame;
@@ -24,14 +25,15 @@ fn counts_for<'a, G: Grammar>(
     table: &'a Table<'_>,
     tokens: &[u8],
     entries: usize,
-) -> Result<Counts<'a, G>, Fault>
-    ensures { CheckedAnswer g.now table.now.bound table.now.cells.now (length tokens.now) (lent_stack entries) result }
+) -> Result<GrammarCounts<'a, G>, Fault>
+    ensures answer { CheckedAnswer (G.meaning g.now) table.now.bound table.now.cells.now (length tokens.now) (lent_stack entries) (counts_in result) }
+    ensures grammar { IfOk result (λ counts. counts.grammar.now ≡ g.now) }
 {
     let lent = Lent {
         stack: Some(entries),
         output: None,
     };
-    checked(g, table, tokens.len(), lent)
+    checked_counts(g, table, tokens.len(), lent)
 }
 
 /// How many sentences of the start that are as long as `tokens` precede `tokens` in split order. The stack is working memory.

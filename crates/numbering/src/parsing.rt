@@ -1,7 +1,7 @@
 //! The parse of tokens, with the rank of each part.
 
 ghost use Rattle.std.specs.Prelude.{◌≡◌, ◌+◌, ◌*◌, ◌≤◌, length};
-ghost use Rattle.table.specs.CountsOf.{grammar_of, bound_of};
+ghost use Rattle.table.specs.GrammarCountsOf.{grammar_of, bound_of};
 ghost use Rattle.numbering.specs.Frames.{room_of, ParseStops, ParseAnswer};
 
 use crate::frame::{Frame, Part};
@@ -45,7 +45,7 @@ impl<'a, G: Grammar, O: LengthPolicy> Parse<'a, G, O> {
     ghost use Rattle.std.specs.Prelude.{MatchResult, drop};
     ghost use Rattle.theory.specs.Sets.{next_of};
     ghost use Rattle.grammar.specs.Interface.{next_of_lookahead};
-    ghost use Rattle.numbering.specs.Parses.{Stands, symbol_here, ParseOf, Goes, Stops, StepAnswer};
+    ghost use Rattle.numbering.specs.Parses.{Stands, symbol_here, ParseOf, Goes, Stops, Opens, StepAnswer};
 
     /// The parse at the front of the slot that is chosen for the start, with a stack for the frames that are suspended.
     pub(crate) fn begin(
@@ -84,7 +84,8 @@ impl<'a, G: Grammar, O: LengthPolicy> Parse<'a, G, O> {
     fn pass(&mut self, t: u8) -> Result<(), Stopped>
         requires at { Stands O.order self.old }
         requires here { Some (Symbol.Terminal t) ≡ symbol_here self.old }
-        ensures { MatchResult result (λ _. Goes O.order self.old self.new) (Stops self.old) }
+        ensures goes { MatchResult result (λ _. Goes O.order self.old self.new) (Stops self.old) }
+        ensures room { room_of self.new.suspended ≡ room_of self.old.suspended }
     {
         if self.lookahead() != Some(t) {
             return Err(Stopped { gone: self.gone });
@@ -98,7 +99,9 @@ impl<'a, G: Grammar, O: LengthPolicy> Parse<'a, G, O> {
     fn open(&mut self, a: u8) -> Result<(), Stopped>
         requires at { Stands O.order self.old }
         requires here { Some (Symbol.Nonterminal a) ≡ symbol_here self.old }
-        ensures { MatchResult result (λ _. Goes O.order self.old self.new) (Stops self.old) }
+        ensures goes { MatchResult result (λ _. Goes O.order self.old self.new) (Stops self.old) }
+        ensures opens { Opens (G.chosen self.old.ranking.counts.now.grammar.now a (next_of (drop self.old.gone self.old.tokens.now))) self.old self.new result }
+        ensures room { room_of self.new.suspended ≡ room_of self.old.suspended }
     {
         let grammar = self.ranking.counts.grammar;
         let slot = grammar
@@ -113,7 +116,8 @@ impl<'a, G: Grammar, O: LengthPolicy> Parse<'a, G, O> {
     fn close(&mut self) -> Result<Option<u64>, Stopped>
         requires at { Stands O.order self.old }
         requires here { None ≡ symbol_here self.old }
-        ensures { StepAnswer O.order self.old self.new result }
+        ensures answer { StepAnswer O.order self.old self.new result }
+        ensures room { room_of self.new.suspended ≡ room_of self.old.suspended }
     {
         let part = self.ranking.whole_part(&self.frame);
         if let Some(below) = self.suspended.pop() {
@@ -130,7 +134,8 @@ impl<'a, G: Grammar, O: LengthPolicy> Parse<'a, G, O> {
     // One step; answers the rank of the tokens once they are parsed.
     fn step(&mut self) -> Result<Option<u64>, Stopped>
         requires { Stands O.order self.old }
-        ensures { StepAnswer O.order self.old self.new result }
+        ensures answer { StepAnswer O.order self.old self.new result }
+        ensures room { room_of self.new.suspended ≡ room_of self.old.suspended }
     {
         let grammar = self.ranking.counts.grammar;
         match grammar.symbol_at(self.frame.slot, self.frame.position) {

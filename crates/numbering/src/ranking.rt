@@ -2,21 +2,21 @@
 
 ghost use Rattle.std.specs.Prelude.{◌≡◌, ℕ, ◌+◌, ◌-◌, ◌*◌, ◌^◌, ◌<◌, ◌≤◌, length, Some, slice_index};
 ghost use Rattle.theory.specs.Count.{left_of};
-ghost use Rattle.table.specs.CountsOf.{grammar_of, bound_of};
+ghost use Rattle.table.specs.GrammarCountsOf.{grammar_of, bound_of};
 ghost use Rattle.walk.specs.Splits.{sum_listed};
 ghost use Rattle.walk.specs.Ways.{ways_before};
 ghost use Rattle.numbering.specs.Parts.{frame_side, PartsFrom, tokens_from, AddsUpFrom, entry_at, Joins, WholePart};
 
 use crate::frame::{Frame, Part};
 use grammar::{Grammar, Symbol};
-use table::{Counts, Row};
+use table::{GrammarCounts, Row};
 use walk::LengthPolicy;
 
 /// What ranks are computed from: the counts of a grammar, and which length of a part comes first.
 // The fields are those of `Unranking` in crate expanding: methods of a struct stand in the crate of that struct, so one struct would serve one of the two.
 #[derive(Drop)]
 pub(crate) struct Ranking<'a, G: Grammar, O> {
-    pub(crate) counts: &'a Counts<'a, G>,
+    pub(crate) counts: &'a GrammarCounts<'a, G>,
     pub(crate) policy: &'a O,
 }
 

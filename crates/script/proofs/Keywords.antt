@@ -1,9 +1,12 @@
 -- The texts of keywords: letters only, and no two are the same.
-use Rattle.std.proofs.Common.{◌≡◌, ℕ, ◌≤◌, Bool, true, cond, ◌&&◌, leb, List, [], ◌∷◌, length, sym, refl, ap, ◌∙◌, arith}
+use Rattle.std.proofs.Common.{◌≡◌, ℕ, ◌≤◌, Bool, true, cond, ◌&&◌, leb, List, [], ◌∷◌, ◌++◌, length, IsUtf8, IsAscii, sym, refl, ap, ◌∙◌, subst, arith}
 use Rattle.std.specs.List.{AllPass, list_all}
 use Rattle.std.specs.Str.{bytes_eq}
 use Rattle.std.proofs.lemmas.Bool.{and_parts, leb-true, ne_eqb}
-use Rattle.std.proofs.lemmas.List.Elements.{All-head, All-weaker}
+use Rattle.std.proofs.lemmas.List.{append-nil}
+use Rattle.std.proofs.lemmas.List.Elements.{All-head, All-tail, All-weaker}
+use Rattle.std.proofs.lemmas.Str.Ascii.{IsAscii-nil, IsAscii-cons}
+use Rattle.std.proofs.lemmas.Str.{IsUtf8-from_ascii}
 use Rattle.std.proofs.lemmas.List.Sums.{AllPass-from_list_all}
 use Rattle.script.specs.Text.{spaced}
 use Rattle.script.specs.Says.{text, IsBlank}
@@ -47,18 +50,32 @@ text_length k = (text_sizes k).1
 letter_range : (b : ℕ) → letter b ≡ true → (97 ≤ b) × (b ≤ 122)
 letter_range b h = let p = and_parts (leb 97 b) (leb b 122) h in (leb-true 97 b p.0, leb-true b 122 p.1)
 
+-- letters are ASCII
+letters_ascii : (w : List ℕ) → AllPass letter w → IsAscii w
+letters_ascii [] h = IsAscii-nil
+letters_ascii (b ∷ bs) h =
+    let r = letter_range b (All-head (λ x. letter x ≡ true) b bs h) in IsAscii-cons b bs (omega arith) (letters_ascii bs (All-tail (λ x. letter x ≡ true) b bs h))
+
+-- a keyword is text
+pub utf8_text : (k : Keyword) → IsUtf8 (text k)
+utf8_text k = IsUtf8-from_ascii (text k) (letters_ascii (text k) (text_letters k))
+
 -- a keyword has no space
 pub plain_text : (k : Keyword) → Plain (text k)
 plain_text k = All-weaker _ _ (λ b h. let r = letter_range b h in ne_eqb b 32 (λ e. omega arith)) (text k) (text_letters k)
 
-letters_blank : (w : List ℕ) (ws : List (List ℕ)) → AllPass letter w → 1 ≤ length w → IsBlank (spaced (w ∷ ws)) → ⊥
-letters_blank [] ws h l e = absurd (omega arith)
-letters_blank (b ∷ bs) [] h l e = let r = letter_range b (All-head (λ x. letter x ≡ true) b bs h) in omega arith
-letters_blank (b ∷ bs) (v ∷ vs) h l e = let r = letter_range b (All-head (λ x. letter x ≡ true) b bs h) in omega arith
+letters_blank : (w rest : List ℕ) → AllPass letter w → 1 ≤ length w → IsBlank (w ++ rest) → ⊥
+letters_blank [] rest h l e = absurd (omega arith)
+letters_blank (b ∷ bs) rest h l e = let r = letter_range b (All-head (λ x. letter x ≡ true) b bs h) in omega arith
 
 -- a line that begins with a keyword is not blank
-pub text_blank : (k : Keyword) (ws : List (List ℕ)) → IsBlank (spaced (text k ∷ ws)) → ⊥
-text_blank k ws = letters_blank (text k) ws (text_letters k) (text_sizes k).0
+pub text_blank : (k : Keyword) (rest : List ℕ) → IsBlank (text k ++ rest) → ⊥
+text_blank k rest = letters_blank (text k) rest (text_letters k) (text_sizes k).0
+
+-- nor is a keyword with words behind it
+pub spaced_blank : (k : Keyword) (ws : List (List ℕ)) → IsBlank (spaced (text k ∷ ws)) → ⊥
+spaced_blank k [] e = text_blank k [] (subst IsBlank (sym (append-nil (text k))) e)
+spaced_blank k (v ∷ ws) e = text_blank k (32 ∷ spaced (v ∷ ws)) e
 
 -- the keyword of a text
 named : List ℕ → Keyword

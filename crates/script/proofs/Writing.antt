@@ -8,7 +8,7 @@ use Rattle.script.specs.Says.{Argument, number, end, text, keyword_of, arguments
 use Rattle.script.specs.Laws.{Within, word_of, EveryCommand}
 use Rattle.script.specs.declared.Command.{Command}
 use Rattle.script.specs.declared.Command.TheVariants.{Brackets, Neutral, Restrict, Start, Choice, Level, Memory, Bound, Count, Check, Table, Cell, Flip, Poke}
-use Rattle.script.proofs.Keywords.{text_length, text_blank}
+use Rattle.script.proofs.Keywords.{text_length, spaced_blank}
 
 -- each limit is a number of 64 bits
 abbrev limited : List Argument → Bool
@@ -70,4 +70,4 @@ every_command c h =
     let n = leb-true (length (arguments c)) 3 p.1 in
     let t = text_length (keyword_of c) in
     let f = spaced_length (text (keyword_of c)) (arguments c) p.0 h in
-    (text_blank (keyword_of c) (map word_of (arguments c)), omega arith, record { words = map word_of (arguments c); joined = refl; written = write_words (arguments c) p.0 h })
+    (spaced_blank (keyword_of c) (map word_of (arguments c)), omega arith, record { words = map word_of (arguments c); joined = refl; written = write_words (arguments c) p.0 h })

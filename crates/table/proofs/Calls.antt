@@ -7,7 +7,6 @@ use Rattle.theory.specs.Sound.{Ll1}
 use Rattle.table.specs.Rows.{needed, Room}
 use Rattle.table.specs.Counts.{SoundTable}
 use Rattle.table.specs.Calls.{NoRoom, NeededAnswer, Counted, CountRefused, CountAnswer, CheckRefused, no_room, broken, CheckAnswer}
-use Rattle.grammar.specs.declared.Grammar.{Ghosts}
 use Rattle.table.specs.CountsOf.{CountsOf}
 use Rattle.table.specs.Checked.{Short, Enough, Sufficient, Insufficient, Usable, Unusable, insufficient, CheckedAnswer}
 use Rattle.table.specs.Checked as checked
@@ -59,10 +58,15 @@ module _ {G : Cfg} {level : ℕ → ℕ} (ll : Ll1 G level) {L : ℕ} {t : List 
   usable_passes u (insufficient i) = suffices u.sufficient i
   usable_passes u (checked.broken i s b) = b.broken (sound_obeys ll u.sound b.row b.at b.is_row b.short)
 
--- the check before a call
-pub checked_answer : {T : Type 0} {members : Ghosts T} {g : T} {level : ℕ → ℕ} {L : ℕ} {t : List ℕ} {n : ℕ} {lent : Lent} → Ll1 (members.meaning g) level
-    → (r : Result (Counts T members) Fault)
-    → MatchResult r (λ counts. Usable (members.meaning g) L t n lent × CountsOf g L t counts) (Unusable (members.meaning g) L t n lent)
-    → CheckedAnswer g L t n lent r
-checked_answer ll (Ok x) h = record { answer = h; exactly = (λ e. h.0, λ o. refl) }
-checked_answer ll (Err f) h = record { answer = h; exactly = (λ e. let z : ◌≡◌ {A = ℕ} 0 1 = cc in absurd (omega arith), λ o. absurd (usable_passes ll o h)) }
+  -- the check before a call
+  pub checked_answer : (r : Result Counts Fault) → MatchResult r (λ counts. Usable G L t n lent × CountsOf G L t counts) (Unusable G L t n lent) → CheckedAnswer G L t n lent r
+  checked_answer (Ok x) h = record { answer = h; exactly = (λ e. h.0, λ o. refl) }
+  checked_answer (Err f) h = record { answer = h; exactly = (λ e. let z : ◌≡◌ {A = ℕ} 0 1 = cc in absurd (omega arith), λ o. absurd (usable_passes o h)) }
+
+-- what refuses a call that uses no memory over sentences of length 0 refuses the check
+pub check_refused : {G : Cfg} {L : ℕ} {t : List ℕ} {f : Fault} → Unusable G L t 0 (record { stack = None; output = None }) f → CheckRefused G L t f
+check_refused (insufficient (checked.no_room l r)) = no_room r
+check_refused (insufficient (checked.too_long l o)) = absurd (omega arith)
+check_refused (insufficient (checked.short_stack r l o)) = absurd o
+check_refused (insufficient (checked.short_output r l e o)) = absurd o
+check_refused (checked.broken i s b) = broken i s.room b

@@ -8,7 +8,6 @@ use Rattle.table.specs.Rows.{Room}
 use Rattle.table.specs.Layouts.{Laid, NoOffsetsPast}
 use Rattle.table.specs.Equations.{LowestBroken}
 use Rattle.table.specs.Counts.{SoundTable}
-use Rattle.grammar.specs.declared.Grammar.{Ghosts}
 use Rattle.table.specs.CountsOf.{CountsOf}
 use Rattle.table.specs.Calls.{NoRoom}
 use Rattle.table.specs.declared.layout.Layout.{Layout}
@@ -58,10 +57,9 @@ pub data Unusable (G : Cfg) (L : ℕ) (cells : List ℕ) (n : ℕ) (lent : Lent)
   insufficient : {f : Fault} → Insufficient G L cells n lent f → Unusable G L cells n lent f
   broken : (i : ℕ) → Sufficient G L cells n lent → LowestBroken G L cells i → Unusable G L cells n lent (BrokenCell i)
 
--- what the check before a call answers, over the table of g
-pub record CheckedAnswer {T : Type 0} {members : Ghosts T} (g : T) (L : ℕ) (cells : List ℕ) (n : ℕ) (lent : Lent) (r : Result (Counts T members) Fault)
-    : Type 0 where
+-- what the check before a call answers
+pub record CheckedAnswer (G : Cfg) (L : ℕ) (cells : List ℕ) (n : ℕ) (lent : Lent) (r : Result Counts Fault) : Type 0 where
   -- the counts of a table that may be used, or why it may not
-  pub answer : MatchResult r (λ counts. Usable (members.meaning g) L cells n lent × CountsOf g L cells counts) (Unusable (members.meaning g) L cells n lent)
+  pub answer : MatchResult r (λ counts. Usable G L cells n lent × CountsOf G L cells counts) (Unusable G L cells n lent)
   -- Ok is answered exactly where the table may be used
-  pub exactly : Decides (is_ok r) (Usable (members.meaning g) L cells n lent)
+  pub exactly : Decides (is_ok r) (Usable G L cells n lent)

@@ -9,5 +9,6 @@ pub mod FillingOf
 pub mod Reading
 pub mod Calls
 pub mod CountsOf
+pub mod GrammarCountsOf
 pub mod Checked
 pub mod Laws

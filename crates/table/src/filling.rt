@@ -70,7 +70,8 @@ impl<G: Grammar> Filling<'_, G> {
             .sum_of(terms_of(self.grammar, row, at), self.length)
     }
 
-    // Writes the count of `row`, which stands at `at`.
+    // Writes the count of `row`, which stands at `at`. Inlined, as `sum_of` is.
+    #[inline(always)]
     fn fill(&mut self, row: Row, at: usize) -> Result<(), TooLarge>
         requires stands { AtRow (grammar_of self.old) row at }
         requires due { equation (grammar_of self.old) (bound_of self.old) self.old.cells.now row self.old.length ≡ count_of (grammar_of self.old) row self.old.length }

@@ -8,6 +8,7 @@
 ghost use Rattle.std.specs.Prelude.{◌≡◌, IfOk, Decides, MatchResult};
 ghost use Rattle.table.specs.Calls.{NoRoom, HasRoom, NeededAnswer, CountAnswer, CheckAnswer};
 ghost use Rattle.table.specs.Checked.{Short, SufficientLayout, Insufficient, CheckedAnswer};
+ghost use Rattle.table.specs.GrammarCountsOf.{counts_in};
 ghost use Rattle.table.specs.Layouts.{NoOffsetsPast};
 ghost use Rattle.table.specs.Laws.{NeededCellsAreThoseOfTheRows, EquationsHaveOneSolution, CountsFitBelowFailure};
 
@@ -15,6 +16,7 @@ use cells::Cells;
 pub use counts::Counts;
 use fault::{Fault, Memory};
 use grammar::Grammar;
+pub use grammar_counts::GrammarCounts;
 use guard::count_cells;
 use layout::{Layout, lay_out};
 
@@ -22,6 +24,7 @@ mod cells;
 mod checking;
 mod counts;
 mod filling;
+mod grammar_counts;
 mod guard;
 mod layout;
 mod nullable;
@@ -129,12 +132,12 @@ fn sufficient<G: Grammar>(
 /// entries of the stack, of which the call asks for (length + 1) × nonterminals, place 2, or bytes of output, of which it asks for as many as the length, place 3;
 /// 12 if a needed cell breaks its equation, place the lowest such cell.
 pub fn checked<'a, G: Grammar>(
-    g: &'a G,
+    g: &G,
     table: &'a Table<'_>,
     length: usize,
     lent: Lent,
-) -> Result<Counts<'a, G>, Fault>
-    ensures { CheckedAnswer g.now table.now.bound table.now.cells.now length lent result }
+) -> Result<Counts<'a>, Fault>
+    ensures { CheckedAnswer (G.meaning g.now) table.now.bound table.now.cells.now length lent result }
 {
     let layout = sufficient(g, table.bound, table.cells, length, lent)?;
     let cells = Cells {
@@ -144,10 +147,23 @@ pub fn checked<'a, G: Grammar>(
     };
     cells.check_all()?;
     Ok(Counts {
-        grammar: g,
         layout,
         cells: table.cells,
     })
+}
+
+/// The same check; the counts that it hands out hold the grammar.
+pub fn checked_counts<'a, G: Grammar>(
+    g: &'a G,
+    table: &'a Table<'_>,
+    length: usize,
+    lent: Lent,
+) -> Result<GrammarCounts<'a, G>, Fault>
+    ensures answer { CheckedAnswer (G.meaning g.now) table.now.bound table.now.cells.now length lent (counts_in result) }
+    ensures grammar { IfOk result (λ counts. counts.grammar.now ≡ g.now) }
+{
+    let counts = checked(g, table, length, lent)?;
+    Ok(GrammarCounts { grammar: g, counts })
 }
 
 /// Whether every needed cell obeys its equation, which is so exactly if the table is sound.

@@ -138,6 +138,8 @@ impl<G: Grammar> Cells<'_, G> {
     }
 
     /// What the equation of the row of which `terms` was read says of its cell at `m`, unless that passes the limit.
+    // Inlined, and so is `fill`: at a call the terms and the view would go through memory, and counting would be slower by a quarter.
+    #[inline(always)]
     pub(crate) fn sum_of(&self, terms: Terms, m: usize) -> Option<u64>
         requires rows { TermsRow (grammar_of self.now) terms }
         requires short { m ≤ bound_of self.now }

@@ -1,7 +1,7 @@
 use Rattle.std.proofs.Common.{[], get_or}
 use Rattle.std.specs.Iterator.Adapters.{enumerate_source, enumerate_count}
 use Rattle.theory.specs.Enumerate.{sentences}
-use Rattle.table.specs.CountsOf.{grammar_of}
+use Rattle.table.specs.GrammarCountsOf.{grammar_of}
 use Rattle.expanding.specs.Expansions.{to_come}
 use Rattle.expanding.proofs.Writing.{Writing}
 use Rattle.expanding.proofs.write_numbered.Given as goal

@@ -23,22 +23,32 @@ pub returns-in-Some : goal.returns-in-Some
 returns-in-Some g c =
     let p = c.args.self.now in
     let im = g.met.G.Grammar.implements p.ranking.counts.now.grammar.now in
+    let room = ap {B = ℕ} length c.in-Some.ensures.entries in
     record {
-      ranking = refl;
-      tokens = refl;
-      room = ap {B = ℕ} length c.in-Some.ensures.entries;
-      on =
-          rw (c.note.ensures, c.in-Some.ensures.holds)
-          (frame_closes im (rw c.in-Some.ensures.holds at c.requires.at) c.requires.here (room_of p.suspended) p.room c.whole_part-part.result c.whole_part-part.ensures);
+      answer = record {
+        ranking = refl;
+        tokens = refl;
+        room = room;
+        on =
+            rw (c.note.ensures, c.in-Some.ensures.holds)
+            (frame_closes im (rw c.in-Some.ensures.holds at c.requires.at) c.requires.here (room_of p.suspended) p.room c.whole_part-part.result c.whole_part-part.ensures);
+      };
+      room = room;
     }
 
 pub returns-then-self : goal.returns-then-self
 returns-then-self g c =
     let im = g.met.G.Grammar.implements c.args.self.now.ranking.counts.now.grammar.now in
-    more_stops im (rw (held_none c.args.self.now.suspended c.in_default.ensures.was_empty) at c.requires.at) c.requires.here c.if-self.true
+    record {
+      answer = more_stops im (rw (held_none c.args.self.now.suspended c.in_default.ensures.was_empty) at c.requires.at) c.requires.here c.if-self.true;
+      room = ap {B = ℕ} length c.in_default.ensures.entries;
+    }
 
 pub returns : goal.returns
 returns g c =
     let im = g.met.G.Grammar.implements c.args.self.now.ranking.counts.now.grammar.now in
     let lists = g.met.O.LengthPolicy.lists c.args.self.now.ranking.policy.now in
-    parse_ends im (rw (held_none c.args.self.now.suspended c.in_default.ensures.was_empty) at c.requires.at) c.requires.here lists c.if-self.false c.whole_part-part.result c.whole_part-part.ensures
+    record {
+      answer = parse_ends im (rw (held_none c.args.self.now.suspended c.in_default.ensures.was_empty) at c.requires.at) c.requires.here lists c.if-self.false c.whole_part-part.result c.whole_part-part.ensures;
+      room = ap {B = ℕ} length c.in_default.ensures.entries;
+    }

@@ -6,7 +6,10 @@ use Rattle.numbering.proofs.parsing.Parse.pass.Goals as goal
 pub returns-then-ne : goal.returns-then-ne
 returns-then-ne g c =
     let im = g.met.G.Grammar.implements c.args.self.now.ranking.counts.now.grammar.now in
-    other_stops im c.requires.at c.requires.here (λ h. not_next c.lookahead.result c.args.t c.if-ne.ensures (c.lookahead.ensures ∙ h))
+    record {
+      goes = other_stops im c.requires.at c.requires.here (λ h. not_next c.lookahead.result c.args.t c.if-ne.ensures (c.lookahead.ensures ∙ h));
+      room = refl;
+    }
 
 pub note-requires : goal.note-requires
 note-requires g c =
@@ -17,10 +20,13 @@ pub returns : goal.returns
 returns g c =
     let im = g.met.G.Grammar.implements c.args.self.now.ranking.counts.now.grammar.now in
     record {
-      ranking = refl;
-      tokens = refl;
+      goes = record {
+        ranking = refl;
+        tokens = refl;
+        room = refl;
+        on =
+            rw c.note.ensures
+            (token_goes im c.requires.at c.requires.here (room_of c.args.self.now.suspended) (sym c.lookahead.ensures ∙ is_next c.lookahead.result c.args.t c.if-ne.ensures));
+      };
       room = refl;
-      on =
-          rw c.note.ensures
-          (token_goes im c.requires.at c.requires.here (room_of c.args.self.now.suspended) (sym c.lookahead.ensures ∙ is_next c.lookahead.result c.args.t c.if-ne.ensures));
     }

@@ -26,7 +26,7 @@ overflow_add-result g c =
     let u = c.add_parts-sum.result in
     let own = sym c.left.ensures ∙ c.unwrap-a.ensures in
     let inside : f.slot < G.slots = slot_below ll.limits f.slot c.unwrap-a.result (right_of (G.slot f.slot)) (is_rule (G.slot f.slot) own) in
-    let short : u.length ≤ c.args.self.now.counts.now.layout.bound = omega (arith, sum_length ll lists (frame_side G f) f.parts u c.add_parts-sum.ensures, c.requires.short) in
+    let short : u.length ≤ c.args.self.now.counts.now.counts.layout.bound = omega (arith, sum_length ll lists (frame_side G f) f.parts u c.add_parts-sum.ensures, c.requires.short) in
     omega (
       arith,
       ways_before_fit ll c.args.self.now.counts.now.sound c.unwrap-a.result u.length short f.slot f.slot u.rank (omega arith) inside own

@@ -1,6 +1,6 @@
 //! Which slot, which length and which ranks a number stands for.
 
-ghost use Rattle.std.specs.Prelude.{◌≡◌, ℕ, ◌+◌, ◌-◌, ◌*◌, ◌/◌, ◌%◌, ◌^◌, ◌<◌, ◌≤◌, length};
+ghost use Rattle.std.specs.Prelude.{◌≡◌, ℕ, ◌+◌, ◌-◌, ◌*◌, ◌/◌, ◌%◌, ◌^◌, ◌<◌, ◌≤◌, length, MatchOption};
 ghost use Rattle.theory.specs.Count.{count};
 ghost use Rattle.table.specs.GrammarCountsOf.{grammar_of, bound_of};
 ghost use Rattle.walk.specs.Splits.{sum_listed};
@@ -11,6 +11,13 @@ use crate::frame::{Frame, Part};
 use grammar::Grammar;
 use table::{GrammarCounts, Row};
 use walk::LengthPolicy;
+
+// What is left of a rank behind `ways` ways; none if it is the rank of one of them.
+fn rank_behind(rank: u64, ways: u64) -> Option<u64>
+    ensures { MatchOption result (rank < ways) (λ behind. rank ≡ ways + behind) }
+{
+    rank.checked_sub(ways)
+}
 
 // The part of that length which has a rank among pairs of a first part and one of `rests` rests.
 fn quotient_part(length: usize, rank: u64, rests: u64) -> Part
@@ -40,7 +47,7 @@ fn divide<O: LengthPolicy>(policy: &O, first: &[u64], rest: &[u64], m: usize, ra
     for i in 0..m + 1 {
         let length = policy.length_at(m, i);
         let rests = rest[m - length];
-        match left.checked_sub(first[length] * rests) {
+        match rank_behind(left, first[length] * rests) {
             None => return quotient_part(length, left, rests),
             Some(behind) => left = behind,
         }
@@ -74,7 +81,7 @@ impl<G: Grammar, O: LengthPolicy> Unranking<'_, G, O> {
     {
         let mut left = rank;
         for slot in 0..self.counts.grammar.slots() {
-            match left.checked_sub(self.counts.slot_ways(a, slot, m as usize)) {
+            match rank_behind(left, self.counts.slot_ways(a, slot, m as usize)) {
                 None => {
                     return Frame {
                         slot,

@@ -53,6 +53,7 @@ impl Counts<'_> {
     }
 
     /// How many ways the right-hand side of `slot` has at `m`, if `slot` is one of a's, else 0. Left-hand and right-hand side are those of `g`, whose counts these need not be.
+    // So it reads the row itself: `slot_count` is of cells whose layout is that of their grammar.
     pub fn slot_ways<G: Grammar>(&self, g: &G, a: u8, slot: u8, m: usize) -> u64
         ensures { result ≡ if_left (left_of ((G.meaning g.now).slot slot)) a (side_ways (right_of ((G.meaning g.now).slot slot)) (counted_row self.now (Row.Suffix slot 0)) m) }
     {

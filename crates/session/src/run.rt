@@ -36,6 +36,7 @@ impl Session<Brackets> {
     }
 
     // Makes both layers neutral.
+    #[tactic(auto, using(crate::specs::Runs::neutral, crate::proofs::Kept::same_memory))]
     fn neutral(&mut self) -> Answer
         ensures { Runs self.old self.new Neutral result }
     {
@@ -70,6 +71,7 @@ impl Session<Brackets> {
     }
 
     /// What a command answers. Where memory runs out, the session is as it was.
+    #[tactic(auto, using(crate::specs::Runs::restrict, crate::proofs::Kept::same_memory))]
     pub fn run(&mut self, heap: Global, command: Command) -> Result<Answer, AllocError>
         ensures answer { IfOk result (Runs self.old self.new command) }
         ensures answered { (Allocates command → ⊥) → is_ok result ≡ true }

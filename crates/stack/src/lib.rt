@@ -27,6 +27,7 @@ impl<'a, T: Copy> Stack<'a, T> {
     }
 
     /// Puts `x` on top; hands it back where every entry is taken, and then nothing changes.
+    #[tactic(auto, using(crate::proofs::Tops::put))]
     pub fn push(&mut self, x: T) -> Result<(), T>
         ensures { Pushed x self.old self.new result }
     {
@@ -48,6 +49,7 @@ impl<'a, T: Copy> Stack<'a, T> {
     }
 
     /// The top; none if the stack is empty.
+    #[tactic(auto, using(crate::proofs::Tops::top))]
     pub fn top(&self) -> Option<T>
         ensures { result ≡ first_of (held self.now) }
     {

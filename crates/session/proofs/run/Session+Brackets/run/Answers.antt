@@ -13,9 +13,6 @@ returns-in-Level-clause-answer c = rw (c.in-Level.is, c.level.ensures) (asked _ 
 pub returns-in-Start-clause-answer : goal.returns-in-Start-clause-answer
 returns-in-Start-clause-answer c = search (rules, runs.start, same_memory)
 
-pub returns-in-Restrict-clause-answer : goal.returns-in-Restrict-clause-answer
-returns-in-Restrict-clause-answer c = search (rules, runs.restrict, same_memory)
-
 pub returns-in-Brackets-clause-answer : goal.returns-in-Brackets-clause-answer
 returns-in-Brackets-clause-answer c = search (rules, runs.brackets, same_memory)
 

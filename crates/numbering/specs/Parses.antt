@@ -34,8 +34,8 @@ pub record Goes {T U : Type 0} {members : Ghosts T} (order : U → LengthOrder) 
       Goes_on (order p.ranking.policy.now) (grammar_of p.ranking.counts.now) (members.chosen p.ranking.counts.now.grammar.now) (members.levels p.ranking.counts.now.grammar.now) p.tokens.now
       (room_of p.suspended) p.frame (suspended_frames p.suspended) q.frame (suspended_frames q.suspended) q.gone
 
--- what opening a frame for a nonterminal of which `choice` is chosen leaves: where there is one, the frame at work is suspended and the new one stands at the front of that slot, with
--- no token gone; else there is none
+-- what opening a frame for a nonterminal of which `choice` is chosen leaves: where there is one, the frame at work is suspended and the new one stands at the front of that slot, and
+-- as many tokens are gone as before; else there is none
 abbrev pub Opens : {T U : Type 0} {members : Ghosts T} → Option ℕ → Parse T U members → Parse T U members → Result (Unit {0}) Stopped → Type 0
 Opens choice p q (Ok _) =
     (s : ℕ) × (choice ≡ Some s) × (q.frame ≡ begun p.frame s) × (suspended_frames q.suspended ≡ p.frame ∷ suspended_frames p.suspended) × (q.gone ≡ p.gone)
